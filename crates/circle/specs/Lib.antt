@@ -1,0 +1,3 @@
+pub mod Circle
+pub mod StandIns
+pub mod Costs

@@ -1,0 +1,17 @@
+pub mod State
+pub mod JournalChanges
+pub mod ServerChanges
+pub mod Refusals
+pub mod Sending
+pub mod Operations
+pub mod Turns
+pub mod Deliveries
+pub mod Crashes
+pub mod Questions
+pub mod Steps
+pub mod Runs
+pub mod Orders
+pub mod Draining
+pub mod AtRest
+pub mod Promises
+pub mod WorkedFacts
