@@ -1,0 +1,16 @@
+pub mod KeptAlongRuns
+pub mod CrashedHaveNothing
+pub mod SharedChanges
+pub mod LoadIsBounded
+pub mod LoadFalls
+pub mod DrainedHasNothing
+pub mod DrainsSoon
+pub mod WritesUnderWay
+pub mod WritesDelivered
+pub mod WritesAfterCrash
+pub mod PrewritesUnderWay
+pub mod OpenIsOwed
+pub mod EventsKeepFlow
+pub mod NothingLeftAtRest
+pub mod OwesNothing
+pub mod ServersAgree
