@@ -1,0 +1,3 @@
+mod Exchanges
+mod Ranking
+mod Selection

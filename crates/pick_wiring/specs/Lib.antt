@@ -1,0 +1,4 @@
+pub mod Order
+pub mod Picks
+pub mod Piled
+pub mod Wires
