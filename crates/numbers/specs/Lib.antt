@@ -1,0 +1,4 @@
+pub mod Numbers
+pub mod Cursors
+pub mod Laying
+pub mod Bytes

@@ -1,0 +1,4 @@
+pub mod Kinds
+pub mod Levels
+pub mod Marks
+pub mod Written
