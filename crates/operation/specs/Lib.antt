@@ -1,0 +1,3 @@
+pub mod Tags
+pub mod Events
+pub mod Parts
