@@ -1,0 +1,4 @@
+pub mod Cleared
+pub mod Filling
+pub mod NewServers
+pub mod OneServer
