@@ -1,0 +1,3 @@
+pub mod Crashed
+pub mod PendingRows
+pub mod Noticed

@@ -1,0 +1,3 @@
+pub mod RowsTaken
+pub mod MessagesHeard
+pub mod HandedOut

@@ -1,0 +1,5 @@
+// Examples of the calls of the ring, proved safe and run.
+#[cfg(test)]
+mod clients;
+#[cfg(test)]
+mod totals;
