@@ -1,5 +1,7 @@
 // What a server finds as it looks round the ring past the crashes that it has noticed: its next, whom it stands in for, and whom a mask covers.
 // The definitions are those of the crate circle, for numbers of any size.
+#![tactic(auto)]
+
 ghost use Rattle.std.specs.Prelude.{◌≡◌, ◌^◌, ◌<◌};
 ghost use Rattle.circle.specs.Circle.{after, covers, dist, next, stands_in};
 ghost use Rattle.servers.specs.Sets.{has};

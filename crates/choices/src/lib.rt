@@ -1,4 +1,6 @@
 // The choices of a turn: which group of what waits at a server goes next, and which entry of that group goes first.
+#![tactic(auto)]
+
 mod entries;
 mod groups;
 mod keys;

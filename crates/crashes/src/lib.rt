@@ -1,4 +1,6 @@
 // Crashes of servers, and how a server notices the crash of another.
+#![tactic(auto)]
+
 mod crashing;
 mod noticing;
 

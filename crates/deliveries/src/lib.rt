@@ -1,4 +1,6 @@
 // Deliver: a server takes one message from the wiring, and what the message does there.
+#![tactic(auto)]
+
 mod delivering;
 mod hearing;
 mod taking;

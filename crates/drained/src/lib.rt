@@ -1,4 +1,6 @@
 // Shelves come to rest: with turns and deliveries alone they are soon drained, then owe nothing, and their servers agree. The statements stand in the specs of model, the proofs in proofs/.
+#![tactic(auto)]
+
 ghost use Rattle.model.specs.AtRest.{ServersAgreeAtRest};
 ghost use Rattle.model.specs.Promises.{EveryRunDrainsSoonAndOwesNothing};
 

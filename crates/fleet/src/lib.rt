@@ -1,4 +1,6 @@
 // The table of the ring's servers: what the calls of the ring ask and change of it, in the words of the rules.
+#![tactic(auto)]
+
 mod changes;
 mod fleet;
 mod making;

@@ -1,4 +1,6 @@
 // The journal of the ring: the rows of all operations, in the order in which they began, with their marks and tags.
+#![tactic(auto)]
+
 mod answers;
 mod changes;
 mod journal;

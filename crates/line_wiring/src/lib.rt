@@ -1,4 +1,6 @@
 // The line wiring: for each server a line of messages, handed out by order of arrival (specs/Lines).
+#![tactic(auto)]
+
 mod lane;
 mod lane_calls;
 mod line_wiring;

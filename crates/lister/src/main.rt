@@ -1,4 +1,6 @@
 // Prints what a schedule on standard input contains.
+#![tactic(auto)]
+
 use listing::whole::list;
 use schedule::whole::MOST_BYTES;
 use std::io;

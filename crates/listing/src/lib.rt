@@ -1,3 +1,5 @@
 // The lines in which programs print a schedule, and the listing of a whole input.
+#![tactic(auto)]
+
 pub mod lines;
 pub mod whole;

@@ -1,4 +1,6 @@
 // The listings of the examples, of each way a header can be faulty, and of the longest input and one byte more.
+#![tactic(auto)]
+
 #[cfg(test)]
 mod tests {
     use listing::whole::list;

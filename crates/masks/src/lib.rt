@@ -1,4 +1,6 @@
 // The masks of one server's messages by row and phase, and what it means that a list names the places where they wait (specs/Listed).
+#![tactic(auto)]
+
 mod methods;
 mod table;
 

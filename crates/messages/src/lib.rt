@@ -1,4 +1,6 @@
 // Messages between servers, and the places where they wait. What it means that messages wait is defined in specs/Waiting.
+#![tactic(auto)]
+
 ghost use Rattle.messages.specs.Phases.{phase_number, phase_of};
 ghost use Rattle.messages.specs.Places.{PlaceOf, place_below, row_of};
 ghost use Rattle.std.specs.Prelude.{◌≡◌};

@@ -1,4 +1,6 @@
 // The rules of a register on a ring of servers: the calls and what they tell. The rules themselves, runs and promises stand in specs/, their proofs in proofs/.
+#![tactic(auto)]
+
 ghost use Rattle.model.specs.Promises.{EveryRunHasOneOrder};
 ghost use Rattle.model.specs.Refusals.{refusal_number};
 ghost use Rattle.model.specs.WorkedFacts.{WorkedFacts};

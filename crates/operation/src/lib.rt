@@ -1,4 +1,6 @@
 // One operation of the ring: its tag, its state, and what each event makes of it.
+#![tactic(auto)]
+
 mod operation;
 mod questions;
 mod tag;

@@ -1,4 +1,6 @@
 // The calls by which clients use the ring: make, write, read and give up.
+#![tactic(auto)]
+
 mod making;
 mod operations;
 

@@ -1,4 +1,6 @@
 // Examples of the calls of the ring, proved safe and run.
+#![tactic(auto)]
+
 #[cfg(test)]
 mod clients;
 #[cfg(test)]

@@ -1,4 +1,6 @@
 // Examples of schedules: what bytes read as, every fault with its place, and what is written.
+#![tactic(auto)]
+
 #[cfg(test)]
 mod faults;
 #[cfg(test)]

@@ -1,4 +1,6 @@
 // The least of a row of keys, for every key with a total order.
+#![tactic(auto)]
+
 ghost use Rattle.search.specs.Order.{Least};
 ghost use Rattle.std.specs.Prelude.{◌≡◌, Bool, true, false};
 

@@ -1,4 +1,6 @@
 // One search serves several kinds of key: tags, counts with server numbers, and rows with phases, which are keys of their own crate.
+#![tactic(auto)]
+
 ghost use Rattle.search_tests.specs.Keys.{load_below, tag_below};
 ghost use Rattle.std.proofs.Common.{rules};
 

@@ -1,4 +1,6 @@
 // What one server of the ring keeps, and how the calls of the ring change it in place.
+#![tactic(auto)]
+
 mod cell;
 mod changes;
 mod questions;

@@ -1,4 +1,6 @@
 // Sets of servers: who is in them is defined in specs/Sets.
+#![tactic(auto)]
+
 ghost use Rattle.servers.specs.Sets.{alone, has, join};
 ghost use Rattle.std.specs.Prelude.{◌≡◌, ◌==◌};
 

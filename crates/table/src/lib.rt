@@ -1,4 +1,6 @@
 // A table of eight servers. What its servers keep, in the words of the rules, is defined in specs/Table.antt; proofs/OneServer.antt shows what a change of one of them does to that.
+#![tactic(auto)]
+
 ghost use Rattle.std.specs.Prelude.{◌≡◌, ℕ, ◌<◌, length, nat_lt};
 ghost use Rattle.server.specs.Changes.{new_server};
 ghost use Rattle.table.specs.Table.{server_at};

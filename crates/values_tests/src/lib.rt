@@ -1,4 +1,6 @@
 // Examples of values: what bytes read as, what is written and printed, and each fault.
+#![tactic(auto)]
+
 #[cfg(test)]
 mod tests {
     use std::test::Fail;

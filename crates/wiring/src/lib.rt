@@ -1,4 +1,6 @@
 // The interface behind which several wirings stand. What waits on a wiring, and what each call does to it, is defined in messages/specs/Waiting.
+#![tactic(auto)]
+
 ghost use Rattle.std.specs.Prelude.{ℕ, false, ◌≡◌};
 ghost use Rattle.messages.specs.Waiting.{Taken, Waiting, cleared, is_place, nothing, put_in, waiting_count};
 

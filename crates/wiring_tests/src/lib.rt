@@ -1,4 +1,6 @@
 // Examples of what the wirings do, run as tests; the code here only reads messages.
+#![tactic(auto)]
+
 ghost use Rattle.wiring_tests.specs.Same.{same};
 ghost use Rattle.std.specs.Prelude.{◌≡◌};
 
