@@ -2,7 +2,7 @@
 -- By cases of the state; where the event does not fit, the test given as a premise is false.
 use Rattle.std.proofs.Common.{◌≡◌, ℕ, ◌<◌, Bool, true, false, cond, not, ◌&&◌, eqb, ltb, refl, ap, ◌∙◌, arith}
 use Rattle.std.proofs.lemmas.Bool.Decides.{nat_tests}
-use Rattle.std.proofs.lemmas.Bool.{true≢false, false≢true, not_true, and_parts}
+use Rattle.std.proofs.lemmas.Bool.{true≢false, false≢true, not-true, and_parts}
 use Rattle.messages.specs.declared.Row.{Row}
 use Rattle.operation.specs.declared.tag.Tag.{Tag}
 use Rattle.operation.specs.declared.operation.Operation.{Operation}
@@ -109,13 +109,13 @@ an_answer_fits o Unused row mark e = absurd (false≢true e)
 an_answer_fits o Queued row mark e = absurd (let z = and_parts (not o.given_up) false e in false≢true z.1)
 an_answer_fits o (Started t) row mark e = record {
   state = Written t mark;
-  is = ap (λ b. cond b o (in_state o (Written t mark))) (not_true o.given_up (and_parts (not o.given_up) true e).0);
+  is = ap (λ b. cond b o (in_state o (Written t mark))) (not-true o.given_up (and_parts (not o.given_up) true e).0);
   says = record { before = refl; gave_before = refl; taken = refl; write = refl; answered = refl; mark = refl; has_tag = refl; tag = refl; numbered = refl; threshold = refl; gave = refl };
 }
 an_answer_fits o (Written t m) row mark e = absurd (false≢true e)
 an_answer_fits o (Waiting t) row mark e = record {
   state = Told row mark;
-  is = ap (λ b. cond b o (in_state o (Told row mark))) (not_true o.given_up (and_parts (not o.given_up) true e).0);
+  is = ap (λ b. cond b o (in_state o (Told row mark))) (not-true o.given_up (and_parts (not o.given_up) true e).0);
   says = record { before = refl; gave_before = refl; taken = refl; write = refl; answered = refl; mark = refl; has_tag = refl; tag = refl; numbered = refl; threshold = refl; gave = refl };
 }
 an_answer_fits o (Told r m) row mark e = absurd (false≢true e)
@@ -170,7 +170,7 @@ pub an_open_read_is_answerable : (o : Operation) (x : Bool) → (is_open o && (n
 an_open_read_is_answerable o x e =
     let parts = and_parts (is_open o) (not (is_write o.state) && x) e in
     let read = and_parts (not (is_write o.state)) x parts.1 in
-    let q = a_read_is_not_queued o.state (not_true (is_write o.state) read.0) in
+    let q = a_read_is_not_queued o.state (not-true (is_write o.state) read.0) in
     ap (λ b. b && not (is_queued o.state)) parts.0 ∙ ap (λ b. not b) q
 
 pub an_open_started_write_is_answerable : (o : Operation) (x : Bool) → (is_open o && (is_started o.state && x)) ≡ true → is_answerable o ≡ true

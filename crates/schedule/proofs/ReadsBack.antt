@@ -1,7 +1,7 @@
 -- The bytes of a header and of steps read as them: each part of a row reads as it and leaves what stands behind it.
 use Rattle.std.proofs.Common.{◌≡◌, ℕ, ◌+◌, ◌<◌, ◌≤◌, true, cond, ◌&&◌, eqb, leb, List, [], ◌∷◌, ◌++◌, length, take, drop, is_some, Some, None, Ok, Option, Result, sym, refl, ap, ◌∙◌, append_assoc, arith, length-append}
 use Rattle.std.proofs.lemmas.List.{drop-append-le, drop_at, length-drop, take-append-le, take_at}
-use Rattle.std.proofs.lemmas.Bool.{and_parts, cond-false, cond-true, eqb-true, le-ltb, leb-true, ltb-true, not_true}
+use Rattle.std.proofs.lemmas.Bool.{and_parts, cond-false, cond-true, eqb-true, le-ltb, leb-true, ltb-true, not-true}
 use Rattle.std.specs.List.{flat_map}
 use Rattle.numbers.specs.Cursors.{place_of}
 use Rattle.numbers.specs.Numbers.{number_bytes, number_limit}
@@ -159,7 +159,7 @@ code_found Pick = refl
 -- The number of a code that may be written stands for it under the wiring.
 code_known : (wiring : WiringKind) (code : Code) → code_fits wiring code ≡ true → code_under wiring (code_number code) ≡ Some code
 code_known wiring code h =
-    cond-false _ _ _ (not_true (is_line wiring && eqb (code_number code) (code_number Pick)) h) ∙ code_found code
+    cond-false _ _ _ (not-true (is_line wiring && eqb (code_number code) (code_number Pick)) h) ∙ code_found code
 
 -- The bytes of a step read as it.
 pub a_step_reads_back : (total : ℕ) (kind : Kind) (wiring : WiringKind) (step : PlainStep) (rest : List ℕ) → step_writable kind wiring step ≡ true

@@ -21,7 +21,7 @@ pub trait Key: Copy {
 
 // The place of the least key, the first among equals; none where there is no key.
 pub fn least<K: Key>(keys: &[K]) -> Option<usize>
-    ensures { Least below keys.now result }
+    ensures { Least K.below keys.now result }
 {
     if keys.len() == 0 {
         return None;

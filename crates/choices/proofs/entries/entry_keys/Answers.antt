@@ -15,7 +15,7 @@ loop-k-preserved c =
     let l = c.loop-k in
     let a = c.args in
     let journal = view a.journal.now in (
-      length-set l.keys l.k c.entry-key.result ∙ l.invariant.0,
-      one_more_is_filled (λ k key. IsEntry (has_entry_of (state a.fleet.now journal) a.server a.group k) (journal.tag k) key) l.keys l.k c.entry-key.result Absent
-          (omega (arith, l.invariant.0, c.loop-k-test.true)) l.invariant.1 c.entry-key.ensures,
+      length-set l.keys l.k c.entry_key.result ∙ l.invariant.0,
+      one_more_is_filled (λ k key. IsEntry (has_entry_of (state a.fleet.now journal) a.server a.group k) (journal.tag k) key) l.keys l.k c.entry_key.result Absent
+          (omega (arith, l.invariant.0, c.loop-k-test.true)) l.invariant.1 c.entry_key.ensures,
     )

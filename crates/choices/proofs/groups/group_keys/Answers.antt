@@ -11,7 +11,7 @@ pub loop-group-preserved : goal.loop-group-preserved
 loop-group-preserved c =
     let l = c.loop-group in
     let a = c.args in (
-      length-set l.keys l.group c.group-key.result ∙ l.invariant.0,
-      one_more_is_filled (λ j key. IsGroup (has a.groups.bits j) (counts_if a.some_entry (servers a.fleet.now) a.server j) j key) l.keys l.group c.group-key.result Absent
-          (omega (arith, l.invariant.0, c.loop-group-test.true)) l.invariant.1 c.group-key.ensures,
+      length-set l.keys l.group c.group_key.result ∙ l.invariant.0,
+      one_more_is_filled (λ j key. IsGroup (has a.groups.bits j) (counts_if a.some_entry (servers a.fleet.now) a.server j) j key) l.keys l.group c.group_key.result Absent
+          (omega (arith, l.invariant.0, c.loop-group-test.true)) l.invariant.1 c.group_key.ensures,
     )

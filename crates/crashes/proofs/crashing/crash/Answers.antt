@@ -8,19 +8,19 @@ use Rattle.sending.proofs.Telling.{not_refused_is_a_server}
 use Rattle.crashes.proofs.Crashed.{a_refused_server_does_not_crash, the_last_does_not_crash, another_server_crashes}
 use Rattle.crashes.proofs.crashing.crash.Goals as goal
 
-pub returns-in-err-refuse-server : goal.returns-in-err-refuse-server
-returns-in-err-refuse-server g c =
+pub returns-in_err-refuse_server : goal.returns-in_err-refuse_server
+returns-in_err-refuse_server g c =
     let before = g.W.Wiring.waits c.args.wiring.now in
-    let reason = c.in-err-refuse-server.field-0.0 in
-    let told : c.from-residual.result ≡ Err reason = search rules in
-    λ j. a_refused_server_does_not_crash (state j c.args.fleet.now before) c.args.server reason c.from-residual.result (c.in-err-refuse-server.ensures j before) told
+    let reason = c.in_err-refuse_server.field-0.0 in
+    let told : c.from_residual.result ≡ Err reason = search rules in
+    λ j. a_refused_server_does_not_crash (state j c.args.fleet.now before) c.args.server reason c.from_residual.result (c.in_err-refuse_server.ensures j before) told
 
-pub returns-then-standing-count-eq1 : goal.returns-then-standing-count-eq1
-returns-then-standing-count-eq1 g c =
+pub returns-then-standing_count-eq1 : goal.returns-then-standing_count-eq1
+returns-then-standing_count-eq1 g c =
     let fleet = c.args.fleet.now in
     let before = g.W.Wiring.waits c.args.wiring.now in
     let last : eqb (count (servers fleet).standing fleet.size) 1 ≡ true = grind (arith, nat_tests) in
-    λ j. the_last_does_not_crash (state j fleet before) c.args.server (c.in-ok-refuse-server.ensures j before) last
+    λ j. the_last_does_not_crash (state j fleet before) c.args.server (c.in_ok-refuse_server.ensures j before) last
 
 pub returns : goal.returns
 returns g c =
@@ -33,7 +33,7 @@ returns g c =
     let change = c.crash.ensures in
     λ j.
     let s = state j fleet before in
-    let accepted = c.in-ok-refuse-server.ensures j before in
+    let accepted = c.in_ok-refuse_server.ensures j before in
     let one_of_lem = not_refused_is_a_server s p (accepted None) in
     let low : p < 8 = omega arith in
     another_server_crashes s p accepted others (state j c.crash.new.self (waits c.clear.new.self))

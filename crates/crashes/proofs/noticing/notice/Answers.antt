@@ -7,8 +7,8 @@ use Rattle.sending.proofs.Telling.{accepted_does_it}
 use Rattle.crashes.proofs.Noticed.{the_new_next_is_told}
 use Rattle.crashes.proofs.noticing.notice.Goals as goal
 
-pub returns-then-was-next : goal.returns-then-was-next
-returns-then-was-next g c = λ j.
+pub returns-then-was_next : goal.returns-then-was_next
+returns-then-was_next g c = λ j.
     let waits = g.W.Wiring.waits in
     let fleet = c.args.fleet.now in
     let before = waits c.args.wiring.now in
@@ -19,5 +19,5 @@ returns-then-was-next g c = λ j.
     let low : p < 8 = search rules in
     let other_low : x < 8 = search rules in
     let was_next : eqb (next_of s p) x ≡ true = search rules in
-    accepted_does_it (refuse_notice s p x) s Done (notices s p x) Done (state j c.notice.new.self (waits c.send-pending.new.wiring)) none refl
-    (the_new_next_is_told j fleet c.notice.new.self before (waits c.send-held.new.wiring) (waits c.send-pending.new.wiring) p x low (c.notice.ensures.other other_low) was_next (c.send-held.ensures j) (c.send-pending.ensures j))
+    accepted_does_it (refuse_notice s p x) s Done (notices s p x) Done (state j c.notice.new.self (waits c.send_pending.new.wiring)) none refl
+    (the_new_next_is_told j fleet c.notice.new.self before (waits c.send_held.new.wiring) (waits c.send_pending.new.wiring) p x low (c.notice.ensures.other other_low) was_next (c.send_held.ensures j) (c.send_pending.ensures j))

@@ -3,7 +3,7 @@ use Rattle.std.proofs.lemmas.Bool.Decides.{nat_tests}
 use Rattle.sending.proofs.Posting.{who_stands_has_a_place}
 use Rattle.crashes.proofs.noticing.send_pending.Goals as goal
 
-pub put-pending-requires : goal.put-pending-requires
-put-pending-requires g c =
-    let place : ltb c.next-of-next.result 8 ≡ true = who_stands_has_a_place c.args.fleet.now c.next-of-next.result (sym c.if-is-standing.ensures) in
+pub put_pending-requires : goal.put_pending-requires
+put_pending-requires g c =
+    let place : ltb c.next_of-next.result 8 ≡ true = who_stands_has_a_place c.args.fleet.now c.next_of-next.result (sym c.if-is_standing.ensures) in
     grind (arith, nat_tests)

@@ -3,5 +3,5 @@ use Rattle.sending.specs.View.{state}
 use Rattle.deliveries.proofs.RowsTaken.{an_old_row_is_not_taken}
 use Rattle.deliveries.proofs.taking.take_row.Goals as goal
 
-pub returns-else-is-news : goal.returns-else-is-news
-returns-else-is-news c = λ w. an_old_row_is_not_taken (state c.args.journal.now c.args.fleet.now w) c.args.server c.args.row.0 (sym c.if-is-news.ensures)
+pub returns-else-is_news : goal.returns-else-is_news
+returns-else-is_news c = λ w. an_old_row_is_not_taken (state c.args.journal.now c.args.fleet.now w) c.args.server c.args.row.0 (sym c.if-is_news.ensures)

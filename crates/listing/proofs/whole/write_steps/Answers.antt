@@ -7,7 +7,7 @@ use Rattle.listing.proofs.whole.write_steps.Goals as goal
 
 pub loop-i-preserved : goal.loop-i-preserved
 loop-i-preserved c =
-    ap (λ (text : List ℕ). text ++ step_lines c.args.kind (c.loop-i.i + 1 + 1) (map plain_step (drop (c.loop-i.i + 1) c.args.steps.now))) c.in-ok-writeln.ensures.bytes
+    ap (λ (text : List ℕ). text ++ step_lines c.args.kind (c.loop-i.i + 1 + 1) (map plain_step (drop (c.loop-i.i + 1) c.args.steps.now))) c.in_ok-writeln.ensures.bytes
     ∙ (one_more_line c.args.kind c.args.steps.now c.loop-i.i _ (string_bytes c.loop-i.text) c.loop-i-test.true ∙ c.loop-i.invariant)
 
 pub returns : goal.returns

@@ -4,8 +4,8 @@ use Rattle.fleet.specs.View.{servers}
 use Rattle.questions.proofs.Bounds.{few_messages_wait, few_entries_are_to_forward}
 use Rattle.questions.proofs.totals.entries_at.Goals as goal
 
-pub overflow-add-result : goal.overflow-add-result
-overflow-add-result g c =
+pub overflow_add-result : goal.overflow_add-result
+overflow_add-result g c =
     let waiting = few_messages_wait (g.W.Wiring.waits c.args.wiring.now) c.args.server in
     let forward = few_entries_are_to_forward (servers c.args.fleet.now) c.args.server in
     omega (arith, c.count.ensures, c.forward_count.ensures)

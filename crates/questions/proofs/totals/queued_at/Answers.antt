@@ -8,4 +8,4 @@ use Rattle.questions.proofs.totals.queued_at.Goals as goal
 pub returns : goal.returns
 returns c =
     let all = at_most_all_pass (is_queued (view c.args.journal.now) c.args.server) 256 in
-    record { is = search rules; few = omega (arith, c.queued-count.ensures) }
+    record { is = search rules; few = omega (arith, c.queued_count.ensures) }

@@ -18,8 +18,8 @@ pub returns : goal.returns
 returns c =
     let j = view c.args.journal.now in
     let client = c.args.client in
-    let r = c.in-ok-row.row.0 in
-    let found : open_row j client ≡ Some r = sym c.open-row.ensures.found ∙ ap row_found c.in-ok-row.ensures.ok-part in
+    let r = c.in_ok-row.row.0 in
+    let found : open_row j client ≡ Some r = sym c.open_row.ensures.found ∙ ap row_found c.in_ok-row.ensures.ok-part in
     let low : ltb 15 client ≡ false = grind (arith, nat_tests) in
     let passes = (least_passes (is_open_of j client) (λ k. k) 256 r found).1 in
     let is : is_open j r ≡ true = grind (arith, nat_tests) in

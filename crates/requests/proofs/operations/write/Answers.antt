@@ -14,13 +14,13 @@ use Rattle.requests.proofs.Storing.{a_stored_value_stands_in_its_row}
 use Rattle.requests.proofs.Beginnings.{the_next_row_is_there, it_begins_in_the_next_row, with_room_it_begins}
 use Rattle.requests.proofs.operations.write.Goals as goal
 
-pub returns-in-err-refuse-begin : goal.returns-in-err-refuse-begin
-returns-in-err-refuse-begin g c = λ w d.
+pub returns-in_err-refuse_begin : goal.returns-in_err-refuse_begin
+returns-in_err-refuse_begin g c = λ w d.
     let values = c.args.values.now in
     let s = shelf d c.args.journal.now c.args.fleet.now w values in
-    let p = err_from_is_err_and c.from-residual.result c.from-residual.ensures.1 in
-    refused_leaves_all (refuse_write s.state (length values) c.args.client c.args.server) s (Row s.state.journal.used) (writes s c.args.client c.args.server c.args.value) (row_outcome c.from-residual.result) _ c.in-err-refuse-begin.field-0.0
-    (c.in-err-refuse-begin.ensures.refuses w (refuse (not (eqb (length values) 256)) WrongRowCount None)) (ap row_outcome (p.1 ∙ ap Err p.2)) refl
+    let p = err_from_is_err_and c.from_residual.result c.from_residual.ensures.1 in
+    refused_leaves_all (refuse_write s.state (length values) c.args.client c.args.server) s (Row s.state.journal.used) (writes s c.args.client c.args.server c.args.value) (row_outcome c.from_residual.result) _ c.in_err-refuse_begin.field-0.0
+    (c.in_err-refuse_begin.ensures.refuses w (refuse (not (eqb (length values) 256)) WrongRowCount None)) (ap row_outcome (p.1 ∙ ap Err p.2)) refl
 
 pub returns-then-values-ne-ROWS : goal.returns-then-values-ne-ROWS
 returns-then-values-ne-ROWS g c = λ w d.
@@ -28,11 +28,11 @@ returns-then-values-ne-ROWS g c = λ w d.
     let s = shelf d c.args.journal.now c.args.fleet.now w values in
     let other : eqb (length values) 256 ≡ false = grind (arith, nat_tests) in
     refused_leaves_all (refuse_write s.state (length values) c.args.client c.args.server) s (Row s.state.journal.used) (writes s c.args.client c.args.server c.args.value) (Refused WrongRowCount) _ WrongRowCount
-    (c.in-ok-refuse-begin.ensures.refuses w (refuse (not (eqb (length values) 256)) WrongRowCount None) ∙ ap (λ b. refuse (not b) WrongRowCount None) other) refl refl
+    (c.in_ok-refuse_begin.ensures.refuses w (refuse (not (eqb (length values) 256)) WrongRowCount None) ∙ ap (λ b. refuse (not b) WrongRowCount None) other) refl refl
 
-pub returns-in-err-row : goal.returns-in-err-row
-returns-in-err-row g c = λ w d.
-    absurd (the_next_row_is_there (view c.args.journal.now) (c.in-ok-refuse-begin.ensures.room refl) c.begin.result c.begin.ensures.row c.in-err-row.ensures.ok-part)
+pub returns-in_err-row : goal.returns-in_err-row
+returns-in_err-row g c = λ w d.
+    absurd (the_next_row_is_there (view c.args.journal.now) (c.in_ok-refuse_begin.ensures.room refl) c.begin.result c.begin.ensures.row c.in_err-row.ensures.ok-part)
 
 pub returns : goal.returns
 returns g c = λ w d.
@@ -43,12 +43,12 @@ returns g c = λ w d.
     let server = c.args.server in
     let value = c.args.value in
     let all : eqb (length values) 256 ≡ true = grind (arith, nat_tests) in
-    let room = c.in-ok-refuse-begin.ensures.room refl in
-    let r = c.in-ok-row.row in
+    let room = c.in_ok-refuse_begin.ensures.room refl in
+    let r = c.in_ok-row.row in
     let byte : r.0 < 256 = search rules in
-    let row = it_begins_in_the_next_row j room c.begin.result r c.begin.ensures.row c.in-ok-row.ensures.ok-part in
+    let row = it_begins_in_the_next_row j room c.begin.result r c.begin.ensures.row c.in_ok-row.ensures.ok-part in
     let begun = with_room_it_begins j room _ _ c.begin.ensures.after in
     let stored = λ (k : ℕ). a_stored_value_stands_in_its_row values r.0 value d (omega arith) k ∙ ap (λ x. set_at (λ k. get_or values k d) x value k) row in
     accepted_does_it (refuse_write s.state (length values) client server) s (Row j.used) (writes s client server value) (Row r.0) _
-    (c.in-ok-refuse-begin.ensures.refuses w (refuse (not (eqb (length values) 256)) WrongRowCount None) ∙ ap (λ b. refuse (not b) WrongRowCount None) all) (ap Row row)
+    (c.in_ok-refuse_begin.ensures.refuses w (refuse (not (eqb (length values) 256)) WrongRowCount None) ∙ ap (λ b. refuse (not b) WrongRowCount None) all) (ap Row row)
     (λ i. record { state = with_journal s.state (begun i); rows = length-set values r.0 value i; values = λ k. stored k i })

@@ -9,7 +9,7 @@ use Rattle.runs.proofs.playing.play.Goals as goal
 
 pub returns-in-Err : goal.returns-in-Err
 returns-in-Err g c =
-    let rows : length c.as-mut-slice.result.now ≡ 256 = c.as-mut-slice.ensures.len ∙ c.in-Ok.ensures.made.1 in
+    let rows : length c.as_mut_slice.result.now ≡ 256 = c.as_mut_slice.ensures.len ∙ c.in-Ok.ensures.made.1 in
     a_refused_make_tells_its_reason _ _ c.args.size c.args.first c.in-Err.reason rows (c.in-Err.ensures nothing c.args.first)
 
 pub loop-i-init : goal.loop-i-init
@@ -21,7 +21,7 @@ pub loop-i-preserved : goal.loop-i-preserved
 loop-i-preserved g c =
     let before = c.loop-i.invariant in
     let outcomes = vec_items c.loop-i.outcomes in
-    let lent = c.as-mut-slice-in-loop-i.ensures in
+    let lent = c.as_mut_slice-in-loop-i.ensures in
     let values = with_items_is c.loop-i.values c.call-outcome.new.values (c.call-outcome.auto.values ∙ lent.len) in
     let told : vec_items c.push.new.self ≡ outcomes ++ c.call-outcome.result ∷ [] = search rules in
     let longer : length (vec_items c.push.new.self) ≡ c.loop-i.i + 1 = ap length told ∙ length-append outcomes (c.call-outcome.result ∷ []) ∙ ap (λ n. n + 1) before.0 in (
@@ -34,7 +34,7 @@ pub returns : goal.returns
 returns g c =
     let waits = g.W.Wiring.waits in
     let first = c.args.first in
-    let new = a_made_shelf_is_new _ _ c.args.size first (c.in-default-make.ensures (waits c.new-wiring.result) first) c.new-wiring.ensures in
-    let values = with_items_is c.in-Ok.values c.make.new.values (c.make.auto.values ∙ c.as-mut-slice.ensures.len) in
+    let new = a_made_shelf_is_new _ _ c.args.size first (c.in_default-make.ensures (waits c.new-wiring.result) first) c.new-wiring.ensures in
+    let values = with_items_is c.in-Ok.values c.make.new.values (c.make.auto.values ∙ c.as_mut_slice.ensures.len) in
     let at = c.loop-i.invariant.0 in
     all_played first _ _ c.args.calls.now (vec_items c.loop-i.outcomes) (rw values new) (c.loop-i.invariant.1 first) (omega arith)

@@ -19,13 +19,13 @@ answered : {rest : List ℕ} {found : Result (Option PlainStep × List ℕ) Step
 answered {rest = rest} next known e is = e ∙ ap (λ (o : Option Step). Ok (plain_next o, rest)) is
 
 -- What the step that was read says of the bytes.
-read_one : (c : goal.In-ok-push)
+read_one : (c : goal.In_ok-push)
     → step_of c.loop-next.reader.cursor.total c.args.kind c.args.wiring (left c.loop-next.reader.cursor)
     ≡ Ok (Some (plain_step c.in-Some.step), left c.step.new.self.cursor)
 read_one c = answered c.in-Ok.next (Some c.in-Some.step) c.in-Ok.ensures.0 c.in-Some.is
 
 -- It took a byte at least.
-fewer_left : (c : goal.In-ok-push) → length (left c.step.new.self.cursor) < length (left c.loop-next.reader.cursor)
+fewer_left : (c : goal.In_ok-push) → length (left c.step.new.self.cursor) < length (left c.loop-next.reader.cursor)
 fewer_left c =
     a_step_takes_a_byte c.loop-next.reader.cursor.total c.args.kind c.args.wiring (left c.loop-next.reader.cursor)
     (plain_step c.in-Some.step) (left c.step.new.self.cursor) (read_one c)
@@ -35,8 +35,8 @@ loop-next-smaller c = fewer_left c
 
 pub loop-next-preserved : goal.loop-next-preserved
 loop-next-preserved c =
-    let pushed = c.in-ok-push.ensures.items in
-    let longer : vec_len c.push.new.self ≡ vec_len c.loop-next.steps + 1 = c.in-ok-push.ensures.len in
+    let pushed = c.in_ok-push.ensures.items in
+    let longer : vec_len c.push.new.self ≡ vec_len c.loop-next.steps + 1 = c.in_ok-push.ensures.len in
     let same_total = c.in-Ok.ensures.1 in
     let fewer = fewer_left c in
     let so_far = c.loop-next.invariant.1 in (
@@ -50,18 +50,18 @@ loop-next-preserved c =
           (vec_items c.loop-next.steps) c.in-Some.step c.loop-next.invariant.2 (read_one c)),
     )
 
-pub returns-in-default : goal.returns-in-default
-returns-in-default c =
+pub returns-in_default : goal.returns-in_default
+returns-in_default c =
     ap (λ k. steps_of k c.args.kind c.args.wiring 1 (left c.args.reader.now.cursor)) (sym c.loop-next.invariant.0)
     ∙ all_collected c.loop-next.reader.cursor.total c.args.kind c.args.wiring (vec_len c.loop-next.steps + 1)
     (left c.args.reader.now.cursor) (left c.loop-next.reader.cursor) (left c.step.new.self.cursor)
     (map plain_step (vec_items c.loop-next.steps)) c.loop-next.invariant.2
-    (answered c.in-Ok.next None c.in-Ok.ensures.0 c.in-default.is)
+    (answered c.in-Ok.next None c.in-Ok.ensures.0 c.in_default.is)
 
 pub returns-in-Err : goal.returns-in-Err
 returns-in-Err c =
     let told : c.into.result ≡ run.Step (numbered (vec_len c.loop-next.steps + 1) c.in-Err.fault)
-    = c.into.ensures ∙ ap run.Step (c.in-step-faulty.ensures ∙ ap (λ k. numbered (k + 1) c.in-Err.fault) c.len.ensures) in
+    = c.into.ensures ∙ ap run.Step (c.in_step-faulty.ensures ∙ ap (λ k. numbered (k + 1) c.in-Err.fault) c.len.ensures) in
     ap (λ k. steps_of k c.args.kind c.args.wiring 1 (left c.args.reader.now.cursor)) (sym c.loop-next.invariant.0)
     ∙ (collected_up_to_a_fault c.loop-next.reader.cursor.total c.args.kind c.args.wiring (vec_len c.loop-next.steps + 1)
     (left c.args.reader.now.cursor) (left c.loop-next.reader.cursor)

@@ -5,9 +5,9 @@ use Rattle.schedule.specs.Headers.{plain_header}
 use Rattle.schedule.proofs.Shrinking.{a_header_adds_no_bytes}
 use Rattle.schedule.proofs.whole.read_up_to_fault.Goals as goal
 
-pub all-steps-requires : goal.all-steps-requires
-all-steps-requires c =
+pub all_steps-requires : goal.all_steps-requires
+all_steps-requires c =
     let fewer =
-    a_header_adds_no_bytes c.new-reader.result.cursor.total (left c.new-reader.result.cursor) (plain_header c.in-ok-header.header)
-    (left c.header-first.new.reader.cursor) c.in-ok-header.ensures.0 in
+    a_header_adds_no_bytes c.new-reader.result.cursor.total (left c.new-reader.result.cursor) (plain_header c.in_ok-header.header)
+    (left c.header_first.new.reader.cursor) c.in_ok-header.ensures.0 in
     omega (arith, ap length c.new-reader.ensures.0)

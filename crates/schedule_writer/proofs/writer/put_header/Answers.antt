@@ -11,14 +11,14 @@ returns c =
     let out = c.args.out.now in
     let servers = number_bytes c.args.header.servers in
     let first = c.args.header.first.now in
-    let behind_kind = laid_behind c.put-number-wiring-at.result c.put-number-first-at.result (number_bytes c.number-2.result) first
-    c.put-number-wiring-at.new.out c.put-number-first-at.new.out c.put-value.new.out
-    c.put-number-first-at.ensures.after c.put-number-first-at.ensures.behind c.put-value.ensures in
-    let behind_servers = laid_behind c.put-number-kind-at.result c.put-number-wiring-at.result (number_bytes c.number.result) (number_bytes c.number-2.result ++ first)
-    c.put-number-kind-at.new.out c.put-number-wiring-at.new.out c.put-value.new.out
-    c.put-number-wiring-at.ensures.after c.put-number-wiring-at.ensures.behind behind_kind in
-    laid_behind 0 c.put-number-kind-at.result servers (number_bytes c.number.result ++ (number_bytes c.number-2.result ++ first))
-    out c.put-number-kind-at.new.out c.put-value.new.out
-    c.put-number-kind-at.ensures.after c.put-number-kind-at.ensures.behind behind_servers
+    let behind_kind = laid_behind c.put_number-wiring_at.result c.put_number-first_at.result (number_bytes c.number-2.result) first
+    c.put_number-wiring_at.new.out c.put_number-first_at.new.out c.put_value.new.out
+    c.put_number-first_at.ensures.after c.put_number-first_at.ensures.behind c.put_value.ensures in
+    let behind_servers = laid_behind c.put_number-kind_at.result c.put_number-wiring_at.result (number_bytes c.number.result) (number_bytes c.number-2.result ++ first)
+    c.put_number-kind_at.new.out c.put_number-wiring_at.new.out c.put_value.new.out
+    c.put_number-wiring_at.ensures.after c.put_number-wiring_at.ensures.behind behind_kind in
+    laid_behind 0 c.put_number-kind_at.result servers (number_bytes c.number.result ++ (number_bytes c.number-2.result ++ first))
+    out c.put_number-kind_at.new.out c.put_value.new.out
+    c.put_number-kind_at.ensures.after c.put_number-kind_at.ensures.behind behind_servers
     ∙ (ap (λ k. lay_at 0 (servers ++ (number_bytes k ++ (number_bytes c.number-2.result ++ first))) out) c.number.ensures
     ∙ ap (λ w. lay_at 0 (servers ++ (number_bytes (kind_number c.args.header.kind) ++ (number_bytes w ++ first))) out) c.number-2.ensures)

@@ -14,10 +14,10 @@ returns c =
     let first = number_bytes c.args.parts.first in
     let second = second_bytes c.args.parts.second in
     let value = value_bytes (option_map (λ x. x.now) c.args.parts.value) in
-    let behind_first = laid_behind c.put-number-second-at.result c.put-second-value-at.result second value
-    c.put-number-second-at.new.out c.put-second-value-at.new.out c.put-optional-value.new.out
-    c.put-second-value-at.ensures.after c.put-second-value-at.ensures.behind c.put-optional-value.ensures in
-    let behind_code = laid_behind 1 c.put-number-second-at.result first (second ++ value)
-    (set out 0 code) c.put-number-second-at.new.out c.put-optional-value.new.out
-    c.put-number-second-at.ensures.after c.put-number-second-at.ensures.behind behind_first in
+    let behind_first = laid_behind c.put_number-second_at.result c.put_second-value_at.result second value
+    c.put_number-second_at.new.out c.put_second-value_at.new.out c.put_optional_value.new.out
+    c.put_second-value_at.ensures.after c.put_second-value_at.ensures.behind c.put_optional_value.ensures in
+    let behind_code = laid_behind 1 c.put_number-second_at.result first (second ++ value)
+    (set out 0 code) c.put_number-second_at.new.out c.put_optional_value.new.out
+    c.put_number-second_at.ensures.after c.put_number-second_at.ensures.behind behind_first in
     behind_code ∙ (laid_behind_a_byte code (first ++ (second ++ value)) out ∙ ap (λ b. lay_at 0 (b ∷ (first ++ (second ++ value))) out) c.number.ensures)

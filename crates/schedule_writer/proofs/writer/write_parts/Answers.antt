@@ -15,8 +15,8 @@ answered room e s = e ∙ ap (λ (r : Result ℕ WriteRefusal). fitted_answer r 
 pub returns-in-Err : goal.returns-in-Err
 returns-in-Err c = record { answer = answered (length c.args.out.now) c.in-Err.ensures c.size.ensures; after = refl }
 
-pub put-parts-requires : goal.put-parts-requires
-put-parts-requires c =
+pub put_parts-requires : goal.put_parts-requires
+put_parts-requires c =
     let p = plain_parts c.args.parts in
     let ok = accepted_has_room (parts_writable c.args.kind c.args.wiring p) (length (parts_bytes p)) (length c.args.out.now) c.in-Ok.size
     (answered (length c.args.out.now) c.in-Ok.ensures c.size.ensures) in
@@ -24,4 +24,4 @@ put-parts-requires c =
     (fit.0, (fit.1, ok.1))
 
 pub returns-in-Ok : goal.returns-in-Ok
-returns-in-Ok c = record { answer = answered (length c.args.out.now) c.in-Ok.ensures c.size.ensures; after = c.put-parts.ensures }
+returns-in-Ok c = record { answer = answered (length c.args.out.now) c.in-Ok.ensures c.size.ensures; after = c.put_parts.ensures }

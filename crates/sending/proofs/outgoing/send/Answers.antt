@@ -5,19 +5,19 @@ use Rattle.sending.specs.View.{state}
 use Rattle.sending.proofs.Posting.{put_is_sent, lost_is_sent, who_stands_has_a_place}
 use Rattle.sending.proofs.outgoing.send.Goals as goal
 
-pub returns-then-is-standing : goal.returns-then-is-standing
-returns-then-is-standing g c =
+pub returns-then-is_standing : goal.returns-then-is_standing
+returns-then-is_standing g c =
     let waits = g.W.Wiring.waits in
     let fleet = c.args.fleet.now in
     let before = waits c.args.wiring.now in
-    let q = c.next-of-next.result in
-    let stands = sym c.if-is-standing.ensures in
+    let q = c.next_of-next.result in
+    let stands = sym c.if-is_standing.ensures in
     let room : c.args.row.0 < 256 = search rules in
-    λ j. put_is_sent (state j fleet before) c.args.server q c.args.row.0 c.args.phase c.args.mask.bits c.next-of-next.ensures.is
+    λ j. put_is_sent (state j fleet before) c.args.server q c.args.row.0 c.args.phase c.args.mask.bits c.next_of-next.ensures.is
     stands (who_stands_has_a_place fleet q stands) room (waits c.put.new.self)
     (c.put.ensures ∙ ap (λ n. put_in before q c.args.row.0 n c.args.mask.bits) c.number.ensures)
 
-pub returns-else-is-standing : goal.returns-else-is-standing
-returns-else-is-standing g c = λ j.
-    lost_is_sent (state j c.args.fleet.now (g.W.Wiring.waits c.args.wiring.now)) c.args.server c.next-of-next.result c.args.row.0 c.args.phase c.args.mask.bits
-    c.next-of-next.ensures.is (sym c.if-is-standing.ensures)
+pub returns-else-is_standing : goal.returns-else-is_standing
+returns-else-is_standing g c = λ j.
+    lost_is_sent (state j c.args.fleet.now (g.W.Wiring.waits c.args.wiring.now)) c.args.server c.next_of-next.result c.args.row.0 c.args.phase c.args.mask.bits
+    c.next_of-next.ensures.is (sym c.if-is_standing.ensures)

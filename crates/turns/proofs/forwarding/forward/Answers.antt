@@ -1,14 +1,14 @@
 use Rattle.turns.proofs.Acting.{a_write_goes_on, a_prewrite_goes_on}
 use Rattle.turns.proofs.forwarding.forward.Goals as goal
 
-pub returns-then-has-write : goal.returns-then-has-write
-returns-then-has-write g c =
+pub returns-then-has_write : goal.returns-then-has_write
+returns-then-has_write g c =
     let waits = g.W.Wiring.waits in
-    a_write_goes_on c.args.journal.now c.args.fleet.now c.release-write-mask.new.self (waits c.args.wiring.now) (waits c.send.new.wiring) c.args.server c.args.row.0 c.release-write-mask.result.bits
-    c.if-has-write.ensures c.release-write-mask.ensures.mask c.release-write-mask.ensures.after c.requires c.send.ensures
+    a_write_goes_on c.args.journal.now c.args.fleet.now c.release_write-mask.new.self (waits c.args.wiring.now) (waits c.send.new.wiring) c.args.server c.args.row.0 c.release_write-mask.result.bits
+    c.if-has_write.ensures c.release_write-mask.ensures.mask c.release_write-mask.ensures.after c.requires c.send.ensures
 
-pub returns-else-has-write : goal.returns-else-has-write
-returns-else-has-write g c =
+pub returns-else-has_write : goal.returns-else-has_write
+returns-else-has_write g c =
     let waits = g.W.Wiring.waits in
-    a_prewrite_goes_on c.args.journal.now c.args.fleet.now c.release-prewrite-mask.new.self (waits c.args.wiring.now) (waits c.send-else-has-write.new.wiring) c.args.server c.args.row.0 c.release-prewrite-mask.result.bits c.is-news-is-news.result
-    c.if-has-write.ensures c.is-news-is-news.ensures c.release-prewrite-mask.ensures.mask c.release-prewrite-mask.ensures.after c.requires c.send-else-has-write.ensures
+    a_prewrite_goes_on c.args.journal.now c.args.fleet.now c.release_prewrite-mask.new.self (waits c.args.wiring.now) (waits c.send-else-has_write.new.wiring) c.args.server c.args.row.0 c.release_prewrite-mask.result.bits c.is_news-is_news.result
+    c.if-has_write.ensures c.is_news-is_news.ensures c.release_prewrite-mask.ensures.mask c.release_prewrite-mask.ensures.after c.requires c.send-else-has_write.ensures

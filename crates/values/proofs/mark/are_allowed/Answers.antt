@@ -6,13 +6,13 @@ use Rattle.values.specs.Kinds.{all_allowed}
 use Rattle.values.specs.Names.{all_allowed_more}
 use Rattle.values.proofs.mark.are_allowed.Goals as goal
 
-pub returns-then-not-is-allowed : goal.returns-then-not-is-allowed
-returns-then-not-is-allowed c =
-    sym (c.loop-byte.invariant ∙ (all_allowed_more c.args.text.now c.loop-byte.byte-index c.loop-byte-test.true ∙ and_left _ _ (sym c.if-not-is-allowed.ensures)))
+pub returns-then-not-is_allowed : goal.returns-then-not-is_allowed
+returns-then-not-is_allowed c =
+    sym (c.loop-byte.invariant ∙ (all_allowed_more c.args.text.now c.loop-byte.byte-index c.loop-byte-test.true ∙ and_left _ _ (sym c.if-not-is_allowed.ensures)))
 
 pub loop-byte-preserved : goal.loop-byte-preserved
 loop-byte-preserved c =
-    c.loop-byte.invariant ∙ (all_allowed_more c.args.text.now c.loop-byte.byte-index c.loop-byte-test.true ∙ ap (λ b. b && all_allowed (drop (c.loop-byte.byte-index + 1) c.args.text.now)) (sym c.if-not-is-allowed.ensures))
+    c.loop-byte.invariant ∙ (all_allowed_more c.args.text.now c.loop-byte.byte-index c.loop-byte-test.true ∙ ap (λ b. b && all_allowed (drop (c.loop-byte.byte-index + 1) c.args.text.now)) (sym c.if-not-is_allowed.ensures))
 
 pub returns : goal.returns
 unfolding all_allowed

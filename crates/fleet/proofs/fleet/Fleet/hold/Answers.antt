@@ -3,8 +3,8 @@ use Rattle.journal.specs.View.{view}
 use Rattle.table.proofs.OneServer.{holding_keeps_all_rows, one_holds}
 use Rattle.fleet.proofs.fleet.Fleet.hold.Goals as goal
 
-pub invariant-of-self : goal.invariant-of-self
-invariant-of-self c =
+pub invariant_of-self : goal.invariant_of-self
+invariant_of-self c =
     let fleet = c.args.self.now in
     let rows = holding_keeps_all_rows fleet.list c.args.server (omega (arith, fleet.sized)) _ (view c.args.journal.now).tag c.args.row.0 fleet.rows c.if-server-lt-SERVERS.true c.hold.ensures in
     (search rules, (search rules, (rows, (search rules, tt))))

@@ -10,7 +10,7 @@ use Rattle.journal.proofs.Facts.{facts_of}
 use Rattle.journal.proofs.Same.{returned_is_returned, no_write_past_the_used_rows}
 use Rattle.journal.proofs.Answering.{nothing_is_answered_yet, the_next_row_stands, a_row_is_passed, a_row_is_answered, the_loop_answers_all}
 use Rattle.journal.proofs.journal.Journal.answer_writes.Goals as goal
-use Rattle.journal.proofs.journal.Journal.answer_writes.Goals.{then-is-returned, else-is-returned}
+use Rattle.journal.proofs.journal.Journal.answer_writes.Goals.{then-is_returned, else-is_returned}
 
 pub loop-k-init : goal.loop-k-init
 loop-k-init c = nothing_is_answered_yet _ _ _ _ _
@@ -22,10 +22,10 @@ loop-k-preserved c =
     let stands = the_next_row_stands _ _ _ _ _ _ _ _ _ kept in
     let test = returned_is_returned _ _ _ (facts_of c.args.self.now) c.loop-k.k c.args.server (tag_key c.args.returned) ∙ ap (λ o. is_returned o c.args.server (tag_key c.args.returned)) (sym stands) in
     let low : c.loop-k.k < length c.loop-k.self.rows = omega (arith, c.loop-k-test.true, c.args.self.now.room, c.loop-k.self.sized) in
-    elim c.if-is-returned.branch [
-      | then-is-returned w ↦ rw w.self-is (a_row_is_answered _ _ _ _ _ _ _ _ _ kept (test ∙ sym w.if-is-returned.ensures) low _ _ _ _ w.answer.ensures.used w.answer.ensures.mark w.answer.ensures.rows
+    elim c.if-is_returned.branch [
+      | then-is_returned w ↦ rw w.self-is (a_row_is_answered _ _ _ _ _ _ _ _ _ kept (test ∙ sym w.if-is_returned.ensures) low _ _ _ _ w.answer.ensures.used w.answer.ensures.mark w.answer.ensures.rows
           (ap (λ o. after o (Answer given (c.loop-k.self.mark + 1))) stands))
-      | else-is-returned w ↦ rw w.self-is (a_row_is_passed _ _ _ _ _ _ _ _ _ kept (test ∙ sym w.if-is-returned.ensures))
+      | else-is_returned w ↦ rw w.self-is (a_row_is_passed _ _ _ _ _ _ _ _ _ kept (test ∙ sym w.if-is_returned.ensures))
     ]
 
 pub returns : goal.returns

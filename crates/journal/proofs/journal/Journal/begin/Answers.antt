@@ -4,13 +4,13 @@ use Rattle.journal.proofs.Facts.{owed, facts_of, the_next_mark_fits}
 use Rattle.journal.proofs.Steps.{facts_after_begin, view_after_begin}
 use Rattle.journal.proofs.journal.Journal.begin.Goals as goal
 
-pub overflow-add-mark : goal.overflow-add-mark
-overflow-add-mark c =
+pub overflow_add-mark : goal.overflow_add-mark
+overflow_add-mark c =
     let small = the_next_mark_fits _ _ _ (facts_of c.args.self.now) in
     search rules
 
-pub invariant-of-self : goal.invariant-of-self
-invariant-of-self c =
+pub invariant_of-self : goal.invariant_of-self
+invariant_of-self c =
     let room : c.args.self.now.used < 256 = omega arith in
     owed _ _ _ (facts_after_begin _ _ _ (facts_of c.args.self.now) room c.args.client c.args.server c.args.request c.after.result c.after.ensures)
 

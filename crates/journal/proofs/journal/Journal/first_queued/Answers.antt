@@ -10,13 +10,13 @@ pub loop-k-init : goal.loop-k-init
 loop-k-init c = λ j l. absurd (omega arith)
 
 pub loop-k-preserved : goal.loop-k-preserved
-loop-k-preserved c = below_more _ _ c.loop-k.invariant (queued_is_queued _ _ _ (facts_of c.args.self.now) c.loop-k.k c.args.server ∙ sym c.if-is-queued-at.ensures)
+loop-k-preserved c = below_more _ _ c.loop-k.invariant (queued_is_queued _ _ _ (facts_of c.args.self.now) c.loop-k.k c.args.server ∙ sym c.if-is_queued_at.ensures)
 
-pub returns-then-is-queued-at : goal.returns-then-is-queued-at
-returns-then-is-queued-at c =
+pub returns-then-is_queued_at : goal.returns-then-is_queued_at
+returns-then-is_queued_at c =
     let test : ℕ → Bool = is_queued (view c.args.self.now) c.args.server in
     let low : c.loop-k.k < 256 = omega (arith, c.loop-k-test.true, c.args.self.now.room) in
-    let passes = queued_is_queued _ _ _ (facts_of c.args.self.now) c.loop-k.k c.args.server ∙ sym c.if-is-queued-at.ensures in
+    let passes = queued_is_queued _ _ _ (facts_of c.args.self.now) c.loop-k.k c.args.server ∙ sym c.if-is_queued_at.ensures in
     record { found = sym (the_first_is_the_least test 256 c.loop-k.k low passes c.loop-k.invariant); some = sym (one_that_passes_is_some test 256 c.loop-k.k low passes) }
 
 pub returns : goal.returns

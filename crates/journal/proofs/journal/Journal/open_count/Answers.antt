@@ -8,10 +8,10 @@ use Rattle.journal.proofs.Facts.{facts_of}
 use Rattle.journal.proofs.Same.{open_is_open, none_open_past_the_used_rows}
 use Rattle.journal.proofs.Searches.{the_count_is_whole}
 use Rattle.journal.proofs.journal.Journal.open_count.Goals as goal
-use Rattle.journal.proofs.journal.Journal.open_count.Goals.{then-is-open, else-is-open}
+use Rattle.journal.proofs.journal.Journal.open_count.Goals.{then-is_open, else-is_open}
 
-pub overflow-add-live : goal.overflow-add-live
-overflow-add-live c =
+pub overflow_add-live : goal.overflow_add-live
+overflow_add-live c =
     let few = a_count_is_at_most_its_bound (is_open (view c.args.self.now)) c.loop-row.row in
     let small : c.loop-row.live + 1 < 65536 = omega (arith, c.loop-row.invariant, c.loop-row-test.true, c.args.self.now.room) in
     search rules
@@ -25,9 +25,9 @@ loop-row-preserved c =
     let same = open_is_open _ _ _ (facts_of c.args.self.now) c.loop-row.row in
     let more = count_more test c.loop-row.row in
     let so_far = c.loop-row.invariant in
-    elim c.if-is-open.branch [
-      | then-is-open w ↦ (let passes : test c.loop-row.row ≡ true = same ∙ sym w.if-is-open.ensures in let new = w.live-is in grind (arith, nat_tests))
-      | else-is-open w ↦ (let fails : test c.loop-row.row ≡ false = same ∙ sym w.if-is-open.ensures in let new = w.live-is in grind (arith, nat_tests))
+    elim c.if-is_open.branch [
+      | then-is_open w ↦ (let passes : test c.loop-row.row ≡ true = same ∙ sym w.if-is_open.ensures in let new = w.live-is in grind (arith, nat_tests))
+      | else-is_open w ↦ (let fails : test c.loop-row.row ≡ false = same ∙ sym w.if-is_open.ensures in let new = w.live-is in grind (arith, nat_tests))
     ]
 
 pub returns : goal.returns

@@ -10,13 +10,13 @@ pub loop-k-init : goal.loop-k-init
 loop-k-init c = λ j l. absurd (omega arith)
 
 pub loop-k-preserved : goal.loop-k-preserved
-loop-k-preserved c = below_more _ _ c.loop-k.invariant (open_of_is_open_of _ _ _ (facts_of c.args.self.now) c.loop-k.k c.args.client ∙ sym c.if-is-open-of.ensures)
+loop-k-preserved c = below_more _ _ c.loop-k.invariant (open_of_is_open_of _ _ _ (facts_of c.args.self.now) c.loop-k.k c.args.client ∙ sym c.if-is_open_of.ensures)
 
-pub returns-then-is-open-of : goal.returns-then-is-open-of
-returns-then-is-open-of c =
+pub returns-then-is_open_of : goal.returns-then-is_open_of
+returns-then-is_open_of c =
     let test : ℕ → Bool = is_open_of (view c.args.self.now) c.args.client in
     let low : c.loop-k.k < 256 = omega (arith, c.loop-k-test.true, c.args.self.now.room) in
-    let passes = open_of_is_open_of _ _ _ (facts_of c.args.self.now) c.loop-k.k c.args.client ∙ sym c.if-is-open-of.ensures in
+    let passes = open_of_is_open_of _ _ _ (facts_of c.args.self.now) c.loop-k.k c.args.client ∙ sym c.if-is_open_of.ensures in
     record { found = sym (the_first_is_the_least test 256 c.loop-k.k low passes c.loop-k.invariant); some = sym (one_that_passes_is_some test 256 c.loop-k.k low passes) }
 
 pub returns : goal.returns

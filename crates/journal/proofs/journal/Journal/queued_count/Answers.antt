@@ -8,10 +8,10 @@ use Rattle.journal.proofs.Facts.{facts_of}
 use Rattle.journal.proofs.Same.{queued_is_queued, none_queued_past_the_used_rows}
 use Rattle.journal.proofs.Searches.{the_count_is_whole}
 use Rattle.journal.proofs.journal.Journal.queued_count.Goals as goal
-use Rattle.journal.proofs.journal.Journal.queued_count.Goals.{then-is-queued-at, else-is-queued-at}
+use Rattle.journal.proofs.journal.Journal.queued_count.Goals.{then-is_queued_at, else-is_queued_at}
 
-pub overflow-add-queued : goal.overflow-add-queued
-overflow-add-queued c =
+pub overflow_add-queued : goal.overflow_add-queued
+overflow_add-queued c =
     let few = a_count_is_at_most_its_bound (is_queued (view c.args.self.now) c.args.server) c.loop-row.row in
     let small : c.loop-row.queued + 1 < 65536 = omega (arith, c.loop-row.invariant, c.loop-row-test.true, c.args.self.now.room) in
     search rules
@@ -25,9 +25,9 @@ loop-row-preserved c =
     let same = queued_is_queued _ _ _ (facts_of c.args.self.now) c.loop-row.row c.args.server in
     let more = count_more test c.loop-row.row in
     let so_far = c.loop-row.invariant in
-    elim c.if-is-queued-at.branch [
-      | then-is-queued-at w ↦ (let passes : test c.loop-row.row ≡ true = same ∙ sym w.if-is-queued-at.ensures in let new = w.queued-is in grind (arith, nat_tests))
-      | else-is-queued-at w ↦ (let fails : test c.loop-row.row ≡ false = same ∙ sym w.if-is-queued-at.ensures in let new = w.queued-is in grind (arith, nat_tests))
+    elim c.if-is_queued_at.branch [
+      | then-is_queued_at w ↦ (let passes : test c.loop-row.row ≡ true = same ∙ sym w.if-is_queued_at.ensures in let new = w.queued-is in grind (arith, nat_tests))
+      | else-is_queued_at w ↦ (let fails : test c.loop-row.row ≡ false = same ∙ sym w.if-is_queued_at.ensures in let new = w.queued-is in grind (arith, nat_tests))
     ]
 
 pub returns : goal.returns

@@ -9,16 +9,16 @@ use Rattle.line_wiring.specs.Line.{lane_masks, numbers}
 use Rattle.line_wiring.specs.Queued.{queued}
 use Rattle.line_wiring.proofs.lane.Lane.put.Goals as goal
 
-pub invariant-of-self : goal.invariant-of-self
-invariant-of-self c =
+pub invariant_of-self : goal.invariant_of-self
+invariant_of-self c =
     let lane = c.args.self.now in (
       (a_new_place_has_room c.args.place (queued lane.queue) (queued c.push.new.self) (lane_masks lane) c.join.new.self c.args.mask.bits
           lane.named c.join.ensures.masks (sym c.join.ensures.new ∙ c.if-join.true) c.push.ensures).1,
       tt,
     )
 
-pub invariant-of-self-else-join : goal.invariant-of-self-else-join
-invariant-of-self-else-join c =
+pub invariant_of-self-else-join : goal.invariant_of-self-else-join
+invariant_of-self-else-join c =
     let lane = c.args.self.now in (
       no_new_place_is_named (queued lane.queue) (lane_masks lane) c.join.new.self c.args.place.row.0 (phase_number c.args.place.phase) c.args.mask.bits
           lane.named c.join.ensures.masks (sym c.join.ensures.new ∙ c.if-join.false),

@@ -12,5 +12,5 @@ returns c =
     let number = c.args.number in
     let long : length (piled p) ≡ p.len = length-take-le p.len p.places (omega (arith, p.sized, p.room)) in
     let low : number % p.len < p.len = mod_below number p.len (omega (arith, c.if-self-eq0.false)) in
-    the_place_of_a_rank (piled p) (piled c.sort-front.new.self) (piled c.remove.new.self) number (number % p.len) c.remove.result
-    (ap (λ n. number % n) (sym long)) (omega (arith, long, low)) c.sort-front.ensures c.remove.ensures
+    the_place_of_a_rank (piled p) (piled c.sort_front.new.self) (piled c.remove.new.self) number (number % p.len) c.remove.result
+    (ap (λ n. number % n) (sym long)) (omega (arith, long, low)) c.sort_front.ensures c.remove.ensures
