@@ -22,10 +22,15 @@ abbrev pub facts_of : (j : Journal) → Facts j.used j.mark j.rows
 facts_of j = record { sized = j.sized; room = j.room; taken = j.taken; marks = j.marks; numbered = j.numbered; numbers = j.numbers }
 
 -- what a call owes of the journal that it leaves
-pub owed : (used mark : ℕ) (rows : List Operation) → Facts used mark rows
-    → (length rows ≡ 256) × ((used ≤ 256) × (((k : ℕ) → is_taken (state_at rows k) ≡ ltb k used) × ((mark ≤ used + how_many is_answered rows)
-    × (((k : ℕ) → is_numbered (state_at rows k) ≡ true) × (((k : ℕ) → tag_number_at rows k ≤ how_many has_tag rows) × Unit {0})))))
-owed used mark rows f = (f.sized, (f.room, (f.taken, (f.marks, (f.numbered, (f.numbers, tt))))))
+pub owed : (used mark : ℕ) (rows : List Operation) → Facts used mark rows → record {
+  sized : length rows ≡ 256;
+  room : used ≤ 256;
+  taken : (k : ℕ) → is_taken (state_at rows k) ≡ ltb k used;
+  marks : mark ≤ used + how_many is_answered rows;
+  numbered : (k : ℕ) → is_numbered (state_at rows k) ≡ true;
+  numbers : (k : ℕ) → tag_number_at rows k ≤ how_many has_tag rows;
+}
+owed used mark rows f = record { sized = f.sized; room = f.room; taken = f.taken; marks = f.marks; numbered = f.numbered; numbers = f.numbers }
 
 -- what holds of the row that is set, and what held of every other row, holds of every row
 pub rows_after_a_set : (P : ℕ → State → Type 0) (rows : List Operation) (r : ℕ) (new : Operation) → r < length rows

@@ -12,8 +12,7 @@ pub invariant_of-self-2 : goal.invariant_of-self-2
 invariant_of-self-2 c =
     let lane = c.args.self.now in
     let first = c.in_ok-first.first in
-    let popped : queued lane.queue ≡ first ∷ queued c.pop.new.self = c.in_ok-first.ensures in (
-      a_place_is_named_no_more first (queued c.pop.new.self) (queued lane.queue) (lane_masks lane) (masks_of c.take_out.new.self) c.take_out.result
-          (λ row phase. ap (λ (xs : List Place). times xs row phase) popped) lane.named c.take_out.ensures,
-      tt,
-    )
+    let popped : queued lane.queue ≡ first ∷ queued c.pop.new.self = c.in_ok-first.ensures in record {
+      named = a_place_is_named_no_more first (queued c.pop.new.self) (queued lane.queue) (lane_masks lane) (masks_of c.take_out.new.self) c.take_out.result
+          (λ row phase. ap (λ (xs : List Place). times xs row phase) popped) lane.named c.take_out.ensures;
+    }

@@ -5,4 +5,4 @@ use Rattle.pick_wiring.specs.Piled.{piled}
 use Rattle.pick_wiring.proofs.lane.Lane.new.Goals as goal
 
 pub invariant_of-result : goal.invariant_of-result
-invariant_of-result c = (no_place_for_no_message (piled c.new-2.result) (masks_of c.new.result) c.new-2.ensures c.new.ensures, tt)
+invariant_of-result c = record { named = no_place_for_no_message (piled c.new-2.result) (masks_of c.new.result) c.new-2.ensures c.new.ensures }

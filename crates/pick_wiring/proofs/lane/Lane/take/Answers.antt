@@ -26,11 +26,10 @@ returns-in_err-place c =
 pub invariant_of-self-2 : goal.invariant_of-self-2
 invariant_of-self-2 c =
     let lane = c.args.self.now in
-    let out = c.in_ok-place.ensures in (
-      a_place_is_named_no_more c.in_ok-place.place (piled c.take.new.self) (piled lane.pile) (lane_masks lane) (masks_of c.take_out.new.self) c.take_out.result
-          out.1 lane.named c.take_out.ensures,
-      tt,
-    )
+    let out = c.in_ok-place.ensures in record {
+      named = a_place_is_named_no_more c.in_ok-place.place (piled c.take.new.self) (piled lane.pile) (lane_masks lane) (masks_of c.take_out.new.self) c.take_out.result
+          out.1 lane.named c.take_out.ensures;
+    }
 
 pub returns : goal.returns
 returns c =
