@@ -50,6 +50,11 @@ module _ {tag : ℕ → ℕ} {standing : ℕ → Bool} {held returned next : ℕ
     in_forwarded : (q : ℕ) → has forwarded q ≡ true → (has (forward_write p r) q ≡ true) ⊎ (q ≡ p)
     in_forwarded q h = let a = has_join (forward_write p r) (one p) q in let b = has_only p q in grind (arith, nat_tests)
 
+    -- what y is to forward it still is, unless just that has gone to the next of y
+    still_to_forward : (y : ℕ) → standing (next y) ≡ true → 0 < forward_write y (held y)
+        → (0 < posted standing waiting (next p) r forwarded (next y) r → tag r < tag (held y)) → 0 < released forward_write p r y (held y)
+    still_to_forward y w old new = grind (arith, nat_tests, sets)
+
     -- the write has gone from p, which has taken its row, to the next of p
     pub forwarding_keeps_writes : Writes tag standing held returned next stand_in (released forward_write p r) (posted standing waiting (next p) r forwarded)
     forwarding_keeps_writes =
@@ -66,8 +71,7 @@ module _ {tag : ℕ → ℕ} {standing : ℕ → Bool} {held returned next : ℕ
           holder_stands_in = i.holder_stands_in;
           onward = λ y v w l none.
               let old = i.onward y v w l (λ k h. none k (posted_keeps standing waiting (next p) r forwarded (next y) k h)) in
-              let new = none r in
-              grind (arith, nat_tests, sets);
+              still_to_forward y w old (none r);
           live = λ x v no_waiting no_forward no_cut. i.live x v
               (λ y k h. no_waiting y k (posted_keeps standing waiting (next p) r forwarded y k h))
               (λ y k h.

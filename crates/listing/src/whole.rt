@@ -9,7 +9,6 @@ use schedule::faults::RunFault;
 use schedule::steps::Step;
 use schedule::whole::{ReadError, Schedule, read_schedule};
 use std::alloc::{AllocError, Global};
-use std::fmt;
 use values::kind::Kind;
 
 // The listing of an input, or that there is no memory for it.
@@ -19,23 +18,23 @@ pub fn list(heap: Global, input: &[u8]) -> Result<String, AllocError>
     let mut text = String::new(heap);
     match write_listing(&mut text, heap, input) {
         Ok(()) => Ok(text),
-        Err(_) => Err(AllocError),
+        Err(error) => Err(error),
     }
 }
 
 // Appends the listing of an input.
-fn write_listing(text: &mut String, heap: Global, input: &[u8]) -> fmt::Result
+fn write_listing(text: &mut String, heap: Global, input: &[u8]) -> Result<(), AllocError>
     ensures { OnOk result (string_bytes text.new ≡ string_bytes text.old ++ listing_of input.now) }
 {
     match read_schedule(heap, input) {
         Ok(schedule) => write_schedule(text, &schedule, input.len()),
         Err(ReadError::Fault(fault)) => text.writeln(BadLine { fault }),
-        Err(ReadError::NoMemory) => Err(fmt::Error),
+        Err(ReadError::NoMemory) => Err(AllocError),
     }
 }
 
 // Appends the listing of what could be read of an input with so many bytes.
-fn write_schedule(text: &mut String, schedule: &Schedule, bytes: usize) -> fmt::Result
+fn write_schedule(text: &mut String, schedule: &Schedule, bytes: usize) -> Result<(), AllocError>
     ensures { OnOk result (string_bytes text.new ≡ string_bytes text.old ++ schedule_lines (plain_schedule schedule.now) bytes) }
 {
     let header = schedule.header;
@@ -46,7 +45,7 @@ fn write_schedule(text: &mut String, schedule: &Schedule, bytes: usize) -> fmt::
 }
 
 // Appends the lines of all steps to a text.
-fn write_steps(text: &mut String, kind: Kind, steps: &[Step]) -> fmt::Result
+fn write_steps(text: &mut String, kind: Kind, steps: &[Step]) -> Result<(), AllocError>
     ensures { OnOk result (string_bytes text.new ≡ string_bytes text.old ++ step_lines kind 1 (map plain_step steps.now)) }
 {
     for i in 0..steps.len() {
@@ -61,7 +60,7 @@ fn write_steps(text: &mut String, kind: Kind, steps: &[Step]) -> fmt::Result
 }
 
 // Appends the last line of a listing to a text.
-fn write_last(text: &mut String, fault: Option<RunFault>, steps: usize, bytes: usize) -> fmt::Result
+fn write_last(text: &mut String, fault: Option<RunFault>, steps: usize, bytes: usize) -> Result<(), AllocError>
     ensures { OnOk result (string_bytes text.new ≡ string_bytes text.old ++ line (last_line fault steps bytes)) }
 {
     match fault {
