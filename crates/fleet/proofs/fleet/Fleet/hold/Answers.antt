@@ -6,8 +6,12 @@ use Rattle.fleet.proofs.fleet.Fleet.hold.Goals as goal
 pub invariant_of-self : goal.invariant_of-self
 invariant_of-self c =
     let fleet = c.args.self.now in
-    let rows = holding_keeps_all_rows fleet.list c.args.server (omega (arith, fleet.sized)) _ (view c.args.journal.now).tag c.args.row.0 fleet.rows c.if-server-lt-SERVERS.true c.hold.ensures in
-    (search rules, (search rules, (rows, (search rules, tt))))
+    record {
+      few = search rules;
+      sized = search rules;
+      rows = holding_keeps_all_rows fleet.list c.args.server (omega (arith, fleet.sized)) _ (view c.args.journal.now).tag c.args.row.0 fleet.rows c.if-server-lt-SERVERS.true c.hold.ensures;
+      groups = search rules;
+    }
 
 pub returns-then-server-lt-SERVERS : goal.returns-then-server-lt-SERVERS
 returns-then-server-lt-SERVERS c =
