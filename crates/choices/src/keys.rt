@@ -41,7 +41,7 @@ pub enum Candidate<K> {
 
 // What does not wait ranks above all that does.
 impl<K: Key> Key for Candidate<K> {
-    ghost below = { candidate_below below };
+    ghost below = { candidate_below K.below };
 
     ghost irreflexive = { Prim.search rules };
 

@@ -10,7 +10,7 @@ use wiring::Wiring;
 
 // The server stops: its masks are empty, and nothing waits for it any more. Refused: no such server; crashed; it is the last that stands.
 pub fn crash<W: Wiring>(fleet: &mut Fleet, wiring: &mut W, server: usize) -> Result<(), Refusal>
-    ensures { (j : Journal) → CrashStep (state j fleet.old (waits wiring.old)) server (outcome result) (state j fleet.new (waits wiring.new)) }
+    ensures { (j : Journal) → CrashStep (state j fleet.old (W.waits wiring.old)) server (outcome result) (state j fleet.new (W.waits wiring.new)) }
 {
     refuse_server(fleet, server)?;
     if fleet.standing_count() == 1 {

@@ -22,7 +22,7 @@ pub fn notice<W: Wiring>(
     server: usize,
     other: usize,
 ) -> Result<(), Refusal>
-    ensures { (j : Journal) → NoticeStep (state j fleet.old (waits wiring.old)) server other (outcome result) (state j fleet.new (waits wiring.new)) }
+    ensures { (j : Journal) → NoticeStep (state j fleet.old (W.waits wiring.old)) server other (outcome result) (state j fleet.new (W.waits wiring.new)) }
 {
     if server >= fleet.size() || other >= fleet.size() {
         return Err(Refusal::NoServer);
@@ -48,7 +48,7 @@ pub fn notice<W: Wiring>(
 // The server sends a write of its held row, unless that is row 0.
 fn send_held<W: Wiring>(fleet: &Fleet, wiring: &mut W, server: usize)
     requires { server < 8 }
-    ensures { (j : Journal) → state j fleet.now (waits wiring.new) ≡ sends_held (state j fleet.now (waits wiring.old)) server }
+    ensures { (j : Journal) → state j fleet.now (W.waits wiring.new) ≡ sends_held (state j fleet.now (W.waits wiring.old)) server }
 {
     let held = fleet.held(server);
     send(
@@ -74,7 +74,7 @@ fn held_mask(row: Row, server: usize) -> ServerSet
 
 // The server sends a pre-write of each row that is pending there, lowest first, with its pending mask.
 fn send_pending<W: Wiring>(fleet: &Fleet, wiring: &mut W, server: usize)
-    ensures { (j : Journal) → state j fleet.now (waits wiring.new) ≡ sends_pending (state j fleet.now (waits wiring.old)) server }
+    ensures { (j : Journal) → state j fleet.now (W.waits wiring.new) ≡ sends_pending (state j fleet.now (W.waits wiring.old)) server }
 {
     let next = fleet.next_of(server);
     if fleet.is_standing(next) {
@@ -85,7 +85,7 @@ fn send_pending<W: Wiring>(fleet: &Fleet, wiring: &mut W, server: usize)
 // A pre-write of each row that is pending at the server is put to wait for another one.
 fn put_pending<W: Wiring>(fleet: &Fleet, wiring: &mut W, server: usize, to: usize)
     requires { to < 8 }
-    ensures { waits wiring.new ≡ pending_put ((servers fleet.now).pending server) to 256 (waits wiring.old) }
+    ensures { W.waits wiring.new ≡ pending_put ((servers fleet.now).pending server) to 256 (W.waits wiring.old) }
 {
     for row in 0..ROWS {
         let mask = fleet.pending(server, Row(row as u8));

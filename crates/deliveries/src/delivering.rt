@@ -18,7 +18,7 @@ pub fn deliver<W: Wiring>(
     wiring: &mut W,
     server: usize,
 ) -> Result<(), Refusal>
-    ensures { DeliverStep (state journal.old fleet.old (waits wiring.old)) server (outcome result) (state journal.new fleet.new (waits wiring.new)) }
+    ensures { DeliverStep (state journal.old fleet.old (W.waits wiring.old)) server (outcome result) (state journal.new fleet.new (W.waits wiring.new)) }
 {
     refuse_server(fleet, server)?;
     let Some(message) = wiring.take(server) else {

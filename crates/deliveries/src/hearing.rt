@@ -22,7 +22,7 @@ pub(crate) fn hear_prewrite<W: Wiring>(
     mask: ServerSet,
 )
     requires { server < 8 }
-    ensures { state journal.new fleet.new (waits wiring.new) ≡ hears_prewrite (state journal.old fleet.old (waits wiring.old)) server row.0 mask.bits }
+    ensures { state journal.new fleet.new (W.waits wiring.new) ≡ hears_prewrite (state journal.old fleet.old (W.waits wiring.old)) server row.0 mask.bits }
 {
     if fleet.ends_at(server, row, mask, journal) {
         take_row(journal, fleet, server, row);

@@ -23,7 +23,7 @@ fn standing_servers(fleet: &Fleet) -> usize
 
 // How many messages wait for the server, and how many entries it has to forward: at most two for each row of both.
 fn entries_at<W: Wiring>(fleet: &Fleet, wiring: &W, server: usize) -> usize
-    ensures is { result ≡ waiting_count (waits wiring.now) server + forward_count (servers fleet.now) server }
+    ensures is { result ≡ waiting_count (W.waits wiring.now) server + forward_count (servers fleet.now) server }
     ensures few { result ≤ 1024 }
 {
     wiring.count(server) + fleet.forward_count(server)
@@ -31,7 +31,7 @@ fn entries_at<W: Wiring>(fleet: &Fleet, wiring: &W, server: usize) -> usize
 
 // How many entries are under way: messages that wait for standing servers, and what those have to forward.
 fn entries_under_way<W: Wiring>(fleet: &Fleet, wiring: &W) -> usize
-    ensures is { (j : Journal) → result ≡ entries_under_way (state j fleet.now (waits wiring.now)) }
+    ensures is { (j : Journal) → result ≡ entries_under_way (state j fleet.now (W.waits wiring.now)) }
     ensures few { result ≤ 8192 }
 {
     let mut entries = 0;
@@ -67,7 +67,7 @@ fn queued_writes(journal: &Journal, fleet: &Fleet) -> usize
 
 // How many servers stand, how many entries are under way, and how many writes are queued. The numbers are small enough to multiply.
 pub fn amounts<W: Wiring>(journal: &Journal, fleet: &Fleet, wiring: &W) -> (usize, usize, usize)
-    ensures is { result ≡ amounts (state journal.now fleet.now (waits wiring.now)) }
+    ensures is { result ≡ amounts (state journal.now fleet.now (W.waits wiring.now)) }
     ensures few { (result.0 ≤ 8) × (result.1 ≤ 8192) × (result.2 ≤ 2048) }
 {
     (

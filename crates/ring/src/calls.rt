@@ -78,21 +78,21 @@ impl Ring {
 
     // The server forwards one entry, or starts one queued write.
     pub fn turn<W: Wiring>(&mut self, wiring: &mut W, server: usize) -> Result<(), Refusal>
-        ensures { TurnStep (ring_state self.old (waits wiring.old)) server (outcome result) (ring_state self.new (waits wiring.new)) }
+        ensures { TurnStep (ring_state self.old (W.waits wiring.old)) server (outcome result) (ring_state self.new (W.waits wiring.new)) }
     {
         turns::turn(&mut self.journal, &mut self.fleet, wiring, server)
     }
 
     // The server takes one message, which the wiring chooses.
     pub fn deliver<W: Wiring>(&mut self, wiring: &mut W, server: usize) -> Result<(), Refusal>
-        ensures { DeliverStep (ring_state self.old (waits wiring.old)) server (outcome result) (ring_state self.new (waits wiring.new)) }
+        ensures { DeliverStep (ring_state self.old (W.waits wiring.old)) server (outcome result) (ring_state self.new (W.waits wiring.new)) }
     {
         deliveries::deliver(&mut self.journal, &mut self.fleet, wiring, server)
     }
 
     // The server stops.
     pub fn crash<W: Wiring>(&mut self, wiring: &mut W, server: usize) -> Result<(), Refusal>
-        ensures { CrashStep (ring_state self.old (waits wiring.old)) server (outcome result) (ring_state self.new (waits wiring.new)) }
+        ensures { CrashStep (ring_state self.old (W.waits wiring.old)) server (outcome result) (ring_state self.new (W.waits wiring.new)) }
     {
         crashes::crash(&mut self.fleet, wiring, server)
     }
@@ -104,14 +104,14 @@ impl Ring {
         server: usize,
         other: usize,
     ) -> Result<(), Refusal>
-        ensures { NoticeStep (ring_state self.old (waits wiring.old)) server other (outcome result) (ring_state self.new (waits wiring.new)) }
+        ensures { NoticeStep (ring_state self.old (W.waits wiring.old)) server other (outcome result) (ring_state self.new (W.waits wiring.new)) }
     {
         crashes::notice(&mut self.fleet, wiring, server, other)
     }
 
     // How many servers stand, how many entries are under way, and how many writes are queued.
     pub fn amounts<W: Wiring>(&self, wiring: &W) -> (usize, usize, usize)
-        ensures { result ≡ amounts (ring_state self.now (waits wiring.now)) }
+        ensures { result ≡ amounts (ring_state self.now (W.waits wiring.now)) }
     {
         questions::amounts(&self.journal, &self.fleet, wiring)
     }

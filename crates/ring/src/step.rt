@@ -37,7 +37,7 @@ impl Ring {
         values: &mut [V],
         call: Call<V>,
     ) -> Outcome
-        ensures { (d : V) → Step (ring_shelf d self.old (waits wiring.old) values.old) call result (ring_shelf d self.new (waits wiring.new) values.new) }
+        ensures { (d : V) → Step (ring_shelf d self.old (W.waits wiring.old) values.old) call result (ring_shelf d self.new (W.waits wiring.new) values.new) }
     {
         match call {
             Call::Write(client, server, value) => row_outcome_of(self.write(

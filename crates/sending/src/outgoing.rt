@@ -19,7 +19,7 @@ pub fn send<W: Wiring>(
     phase: Phase,
     mask: ServerSet,
 )
-    ensures { (j : Journal) → state j fleet.now (waits wiring.new) ≡ sent (state j fleet.now (waits wiring.old)) server row.0 (phase_number phase) mask.bits }
+    ensures { (j : Journal) → state j fleet.now (W.waits wiring.new) ≡ sent (state j fleet.now (W.waits wiring.old)) server row.0 (phase_number phase) mask.bits }
 {
     let next = fleet.next_of(server);
     if fleet.is_standing(next) {

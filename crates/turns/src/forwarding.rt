@@ -18,7 +18,7 @@ pub(crate) fn forward<W: Wiring>(
     row: Row,
 )
     requires { server < 8 }
-    ensures { state journal.now fleet.new (waits wiring.new) ≡ forwards (state journal.now fleet.old (waits wiring.old)) server row.0 }
+    ensures { state journal.now fleet.new (W.waits wiring.new) ≡ forwards (state journal.now fleet.old (W.waits wiring.old)) server row.0 }
 {
     if fleet.has_write(server, row) {
         let mask = fleet.release_write(server, row);

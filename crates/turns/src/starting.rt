@@ -21,7 +21,7 @@ pub(crate) fn start_queued<W: Wiring>(
     server: usize,
 )
     requires { server < 8 }
-    ensures { state journal.new fleet.new (waits wiring.new) ≡ forwards_or_starts (state journal.old fleet.old (waits wiring.old)) server None (least (is_queued (view journal.old) server) (λ k. k) 256) }
+    ensures { state journal.new fleet.new (W.waits wiring.new) ≡ forwards_or_starts (state journal.old fleet.old (W.waits wiring.old)) server None (least (is_queued (view journal.old) server) (λ k. k) 256) }
 {
     if let Some(row) = journal.first_queued(server as u8) {
         let highest = fleet.highest_row(server, journal);

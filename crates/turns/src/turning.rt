@@ -18,7 +18,7 @@ pub fn turn<W: Wiring>(
     wiring: &mut W,
     server: usize,
 ) -> Result<(), Refusal>
-    ensures { TurnStep (state journal.old fleet.old (waits wiring.old)) server (outcome result) (state journal.new fleet.new (waits wiring.new)) }
+    ensures { TurnStep (state journal.old fleet.old (W.waits wiring.old)) server (outcome result) (state journal.new fleet.new (W.waits wiring.new)) }
 {
     refuse_server(fleet, server)?;
     let Some(group) = chosen_group(fleet, journal, server) else {

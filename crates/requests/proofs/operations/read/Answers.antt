@@ -20,7 +20,7 @@ returns-in_err-refuse_begin c = λ w.
 
 pub returns-in_err-row : goal.returns-in_err-row
 returns-in_err-row c = λ w.
-    absurd (the_next_row_is_there (view c.args.journal.now) (c.in_ok-refuse_begin.ensures.room refl) c.begin.result c.begin.ensures.row c.in_err-row.ensures.ok-part)
+    absurd (the_next_row_is_there (view c.args.journal.now) (c.in_ok-refuse_begin.ensures.room refl) c.begin.result c.begin.ensures.row c.in_err-row.ensures.ok_part)
 
 pub returns-then-not-some_pending : goal.returns-then-not-some_pending
 returns-then-not-some_pending c = λ w.
@@ -29,7 +29,7 @@ returns-then-not-some_pending c = λ w.
     let client = c.args.client in
     let server = c.args.server in
     let room = c.in_ok-refuse_begin.ensures.room refl in
-    let row = it_begins_in_the_next_row j room c.begin.result c.in_ok-row.row c.begin.ensures.row c.in_ok-row.ensures.ok-part in
+    let row = it_begins_in_the_next_row j room c.begin.result c.in_ok-row.row c.begin.ensures.row c.in_ok-row.ensures.ok_part in
     let begun = with_room_it_begins j room _ _ c.begin.ensures.after ∙ ap (journal_begun j false client server) c.highest_pending-threshold.ensures in
     let told = answered_straight_away j client server _ _ (sym c.if-not-some_pending.ensures) _ _ _ _ _ begun row c.held.ensures c.answer_read.ensures in
     accepted_does_it (refuse_read s client server) s (Row j.used) (read s client server) (Row c.in_ok-row.row.0) _
@@ -42,7 +42,7 @@ returns-else-not-some_pending c = λ w.
     let client = c.args.client in
     let server = c.args.server in
     let room = c.in_ok-refuse_begin.ensures.room refl in
-    let row = it_begins_in_the_next_row j room c.begin.result c.in_ok-row.row c.begin.ensures.row c.in_ok-row.ensures.ok-part in
+    let row = it_begins_in_the_next_row j room c.begin.result c.in_ok-row.row c.begin.ensures.row c.in_ok-row.ensures.ok_part in
     let begun = with_room_it_begins j room _ _ c.begin.ensures.after ∙ ap (journal_begun j false client server) c.highest_pending-threshold.ensures in
     let told = else_it_waits j client server _ _ (sym c.if-not-some_pending.ensures) _ (s.servers.held server) begun in
     accepted_does_it (refuse_read s client server) s (Row j.used) (read s client server) (Row c.in_ok-row.row.0) _

@@ -32,7 +32,7 @@ returns-then-values-ne-ROWS g c = λ w d.
 
 pub returns-in_err-row : goal.returns-in_err-row
 returns-in_err-row g c = λ w d.
-    absurd (the_next_row_is_there (view c.args.journal.now) (c.in_ok-refuse_begin.ensures.room refl) c.begin.result c.begin.ensures.row c.in_err-row.ensures.ok-part)
+    absurd (the_next_row_is_there (view c.args.journal.now) (c.in_ok-refuse_begin.ensures.room refl) c.begin.result c.begin.ensures.row c.in_err-row.ensures.ok_part)
 
 pub returns : goal.returns
 returns g c = λ w d.
@@ -46,7 +46,7 @@ returns g c = λ w d.
     let room = c.in_ok-refuse_begin.ensures.room refl in
     let r = c.in_ok-row.row in
     let byte : r.0 < 256 = search rules in
-    let row = it_begins_in_the_next_row j room c.begin.result r c.begin.ensures.row c.in_ok-row.ensures.ok-part in
+    let row = it_begins_in_the_next_row j room c.begin.result r c.begin.ensures.row c.in_ok-row.ensures.ok_part in
     let begun = with_room_it_begins j room _ _ c.begin.ensures.after in
     let stored = λ (k : ℕ). a_stored_value_stands_in_its_row values r.0 value d (omega arith) k ∙ ap (λ x. set_at (λ k. get_or values k d) x value k) row in
     accepted_does_it (refuse_write s.state (length values) client server) s (Row j.used) (writes s client server value) (Row r.0) _
