@@ -9,7 +9,7 @@ use Rattle.runs.proofs.playing.play.Goals as goal
 
 pub returns-in-Err : goal.returns-in-Err
 returns-in-Err g c =
-    let rows : length c.as_mut_slice.result.now ≡ 256 = c.as_mut_slice.ensures.len ∙ c.in-Ok.ensures.made.1 in
+    let rows : length c.as_mut_slice.result.now ≡ 256 = c.as_mut_slice.ensures.len ∙ c.in-Ok.ensures.len in
     a_refused_make_tells_its_reason _ _ c.args.size c.args.first c.in-Err.reason rows (c.in-Err.ensures nothing c.args.first)
 
 pub loop-i-init : goal.loop-i-init
