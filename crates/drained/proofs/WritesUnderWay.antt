@@ -33,7 +33,7 @@ pub record Writes (tag : ℕ → ℕ) (standing : ℕ → Bool) (held returned n
 -- who has taken a row has it still, where it holds and has returned no less
 pub has_it_still : {tag held returned : ℕ → ℕ} {stand_in : ℕ → ℕ → Bool} {r q : ℕ} (held_then returned_then : ℕ → ℕ) → tag (held q) ≤ tag (held_then q) → returned q ≤ returned_then q
     → HasTaken tag held returned stand_in r q → HasTaken tag held_then returned_then stand_in r q
-has_it_still held_then returned_then HoldsMore returned_more h = record { holds = le_trans h.holds HoldsMore; or_stands_in = λ l. h.or_stands_in (below_more returned_more l) }
+has_it_still held_then returned_then holds_more returned_more h = record { holds = le_trans h.holds holds_more; or_stands_in = λ l. h.or_stands_in (below_more returned_more l) }
 
 module _ {tag : ℕ → ℕ} {standing : ℕ → Bool} {held returned next : ℕ → ℕ} {stand_in : ℕ → ℕ → Bool} {forward_write waiting : ℕ → ℕ → ℕ} (i : Writes tag standing held returned next stand_in forward_write waiting) where
   -- the same writes wait

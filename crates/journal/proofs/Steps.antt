@@ -12,7 +12,7 @@ use Rattle.operation.specs.declared.operation.Event.TheVariants.{Begin, Start, A
 use Rattle.messages.specs.declared.Row.{Row}
 use Rattle.operation.specs.Tags.{tag_key}
 use Rattle.operation.specs.Events.{after, in_state, abandoned, new_operation, first_state}
-use Rattle.operation.specs.Parts.{is_taken, is_write, is_answered, has_tag, answer_mark, state_tag, threshold_key, row_given, asks_to_write, threshold_asked, is_queued, is_queued_at, is_open, is_answerable}
+use Rattle.operation.specs.Parts.{is_taken, is_write, is_answered, answer_mark, state_tag, threshold_key, row_given, asks_to_write, threshold_asked, is_queued, is_queued_at, is_open, is_answerable}
 use Rattle.operation.proofs.Fits.{Queue, an_answer_fits, an_operation_begins, an_unused_state_is_blank, the_first_state_is_fresh, a_queued_write_starts, an_open_operation_is_given_up}
 use Rattle.journal.specs.Rows.{operation_at, state_at, tag_number_at}
 use Rattle.journal.specs.View.{journal_of}

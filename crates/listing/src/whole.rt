@@ -60,7 +60,12 @@ fn write_steps(text: &mut String, kind: Kind, steps: &[Step]) -> Result<(), Allo
 }
 
 // Appends the last line of a listing to a text.
-fn write_last(text: &mut String, fault: Option<RunFault>, steps: usize, bytes: usize) -> Result<(), AllocError>
+fn write_last(
+    text: &mut String,
+    fault: Option<RunFault>,
+    steps: usize,
+    bytes: usize,
+) -> Result<(), AllocError>
     ensures { OnOk result (string_bytes text.new ≡ string_bytes text.old ++ line (last_line fault steps bytes)) }
 {
     match fault {

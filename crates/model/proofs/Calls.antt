@@ -10,7 +10,7 @@ use Rattle.circle.proofs.Ring.{covers_at}
 use Rattle.counting.specs.Below.{top}
 use Rattle.model.specs.State.{State, tag_number, is_pending, tag_of}
 use Rattle.model.specs.Sending.{next_of, sent, gone}
-use Rattle.model.specs.Operations.{answered, asked, read}
+use Rattle.model.specs.Operations.{asked, read}
 use Rattle.model.specs.Turns.{releases_prewrite, releases_write, forwards_prewrite, forwards_write, tagged, starts, fresh_number, counted}
 use Rattle.model.specs.Deliveries.{ends_at, took, raised, took_and_returned, keeps_prewrite, keeps_write}
 use Rattle.model.specs.Crashes.{learns, sends_held, sends_pending}

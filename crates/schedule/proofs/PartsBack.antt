@@ -18,7 +18,6 @@ use Rattle.schedule.specs.declared.faults.StepFault.{StepFault}
 use Rattle.schedule.specs.declared.faults.StepFault.TheVariants.{Number, OutOfRange, Value}
 use Rattle.schedule.specs.declared.headers.WiringKind.{WiringKind}
 use Rattle.schedule.specs.declared.headers.WiringKind.TheVariants as wiring
-use Rattle.schedule.specs.declared.steps.Code.TheVariants.{Pick}
 use Rattle.schedule.specs.Headers.{servers_of, wiring_number, wiring_of}
 use Rattle.schedule.specs.Reading.{and_then, header_number, in_range, in_number, in_value, number_of, value_of, value_or_fault}
 use Rattle.schedule.specs.Bytes.{number_fits, value_whole}

@@ -1,7 +1,7 @@
 -- Laws of masks.
-use Rattle.std.proofs.Common.{◌≡◌, ℕ, zero, suc, ◌+◌, ◌-◌, ◌*◌, ◌/◌, ◌%◌, ◌^◌, ◌<◌, ◌≤◌, min, max, Bool, true, false, cond, ◌||◌, eqb, ◌⊎◌, sym, refl, ap, ◌∙◌, inl, inr, ⊎_elim, arith, pow_pos}
+use Rattle.std.proofs.Common.{◌≡◌, ℕ, zero, suc, ◌+◌, ◌/◌, ◌%◌, ◌^◌, ◌<◌, ◌≤◌, min, max, true, false, ◌||◌, eqb, ◌⊎◌, sym, refl, ap, ◌∙◌, inl, inr, ⊎_elim, arith, pow_pos}
 use native.Mathlib.Nat.{zero-div, div-div-eq-div-mul, pow-succ'}
-use lib.Bits.{bit_or, bit_and, or_shr, or_step, and_shr, and_step, or_add_and, and_le_l, and_le_r}
+use lib.Bits.{bit_or, bit_and, or_shr, or_step, and_step, or_add_and, and_le_l, and_le_r}
 use Rattle.std.proofs.lemmas.Bool.Decides.{nat_tests}
 use Rattle.std.proofs.lemmas.Bool.{cases_eq}
 use Rattle.servers.specs.Sets.{has, join, one}

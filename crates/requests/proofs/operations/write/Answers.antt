@@ -8,7 +8,7 @@ use Rattle.model.specs.State.{set_at, with_journal}
 use Rattle.model.specs.Refusals.{refuse}
 use Rattle.model.specs.Operations.{refuse_write, writes}
 use Rattle.journal.specs.View.{view}
-use Rattle.sending.specs.View.{state, shelf, row_outcome}
+use Rattle.sending.specs.View.{shelf, row_outcome}
 use Rattle.sending.proofs.Telling.{refused_leaves_all, accepted_does_it}
 use Rattle.requests.proofs.Storing.{a_stored_value_stands_in_its_row}
 use Rattle.requests.proofs.Beginnings.{the_next_row_is_there, it_begins_in_the_next_row, with_room_it_begins}

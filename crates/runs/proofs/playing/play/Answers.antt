@@ -1,7 +1,6 @@
 -- The proof of play: a new ring is the start of a run, each call makes it longer by one, and both promises hold of the whole.
-use Rattle.std.proofs.Common.{◌≡◌, ◌+◌, ◌<◌, true, [], ◌∷◌, ◌++◌, length, is_ok, vec_items, sym, refl, ap, ◌∙◌, arith, rules}
+use Rattle.std.proofs.Common.{◌≡◌, ◌+◌, [], ◌∷◌, ◌++◌, length, vec_items, sym, ap, ◌∙◌, arith, rules}
 use Rattle.std.proofs.lemmas.List.{length-append, with_items_is}
-use Rattle.std.proofs.lemmas.Bool.Decides.{nat_tests}
 use Rattle.messages.specs.Waiting.{nothing}
 use Rattle.runs.proofs.Making.{a_made_shelf_is_new, a_refused_make_tells_its_reason}
 use Rattle.runs.proofs.SoFar.{nothing_played, one_more_played, all_played}
