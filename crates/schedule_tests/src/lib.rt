@@ -4,7 +4,7 @@
 #[cfg(test)]
 mod faults;
 #[cfg(test)]
-mod numbers;
+mod number_bytes;
 #[cfg(test)]
 mod reading;
 #[cfg(test)]

@@ -95,7 +95,7 @@ fn the_sample_begins_with_a_write(rt: HostRuntime) -> Result<(), Fail> {
     assert_eq!(rt; schedule.header.servers, 2);
     assert_eq!(rt; schedule.header.kind.number(), 1);
     assert_eq!(rt; schedule.header.wiring.number(), 1);
-    assert_eq!(rt; schedule.header.first, b"\x00\x00\x00\x00");
+    assert_eq!(rt; schedule.header.first, b"\x00\x00\x00\x00".as_slice());
     match schedule.steps.first() {
         Some(
             Step::Write {
@@ -106,7 +106,7 @@ fn the_sample_begins_with_a_write(rt: HostRuntime) -> Result<(), Fail> {
         ) => {
             assert_eq!(rt; *client, 0);
             assert_eq!(rt; *server, 0);
-            assert_eq!(rt; *value, b"\x07\x00\x00\x00");
+            assert_eq!(rt; *value, b"\x07\x00\x00\x00".as_slice());
             Ok(())
         }
         _ => Err(Fail::new("another step")),
