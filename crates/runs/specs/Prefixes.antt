@@ -1,6 +1,6 @@
 -- The first calls of a run are a run.
 use Rattle.std.specs.Prelude.{ℕ, ◌≤◌}
-use Rattle.std.proofs.Common.{arith}
+use Rattle.std.proofs.Common.{le_trans}
 use Rattle.model.specs.Runs.{Run}
 
 module _ {V : Type 0} where
@@ -13,5 +13,5 @@ module _ {V : Type 0} where
     call = run.call;
     outcome = run.outcome;
     new = run.new;
-    steps = λ i below. run.steps i (omega arith);
+    steps = λ i below. run.steps i (le_trans below within);
   }
