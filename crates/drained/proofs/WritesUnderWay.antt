@@ -14,7 +14,7 @@ pub record HasTaken (tag held returned : ℕ → ℕ) (stand_in : ℕ → ℕ �
   pub holds : tag r ≤ tag (held q)
   pub or_stands_in : returned q < tag r → stand_in q (tag_server (tag r)) ≡ true
 
--- next p: the next of p (p is cut off if that has crashed); stand-in p o: p is stand-in for o; waiting p r: the mask of the write of row r that waits for p
+-- next p: the next of p (p is cut off if that has crashed); stand_in p o: p is stand-in for o; waiting p r: the mask of the write of row r that waits for p
 pub record Writes (tag : ℕ → ℕ) (standing : ℕ → Bool) (held returned next : ℕ → ℕ) (stand_in : ℕ → ℕ → Bool) (forward_write waiting : ℕ → ℕ → ℕ) : Type 0 where
   -- a server that is to forward a write has returned its tag, and no server has returned a tag above its held row's
   pub forwarder_returned : (p r : ℕ) → 0 < forward_write p r → tag r ≤ returned p

@@ -15,17 +15,17 @@ use Rattle.journal.specs.Questions.{no_journal}
 use Rattle.journal.proofs.Facts.{Facts, facts_after_a_set}
 use Rattle.journal.proofs.Views.{the_view_after_a_set}
 
-get_d_replicate : {A : Type 0} (n i : ℕ) (a : A) → get_or (replicate n a) i a ≡ a
-get_d_replicate zero i a = refl
-get_d_replicate (suc n) zero a = refl
-get_d_replicate (suc n) (suc i) a = get_d_replicate n i a
+get_or_replicate : {A : Type 0} (n i : ℕ) (a : A) → get_or (replicate n a) i a ≡ a
+get_or_replicate zero i a = refl
+get_or_replicate (suc n) zero a = refl
+get_or_replicate (suc n) (suc i) a = get_or_replicate n i a
 
 -- n rows that no operation has taken
 abbrev pub unused_rows : ℕ → List Operation
 unused_rows n = replicate n unused_operation
 
 pub unused_rows_are_unused : (k : ℕ) → operation_at (unused_rows 256) k ≡ unused_operation
-unused_rows_are_unused k = get_d_replicate 256 k unused_operation
+unused_rows_are_unused k = get_or_replicate 256 k unused_operation
 
 module _ (rows : List Operation) (len : length rows ≡ 256) (blank : (k : ℕ) → operation_at rows k ≡ unused_operation) where
   pub facts_of_no_rows : Facts 0 0 rows

@@ -1,4 +1,4 @@
--- Each kind of change that leaves tags, held rows and pending rows alone keeps the invariant; X-inv says it of X.
+-- Each kind of change that leaves tags, held rows and pending rows alone keeps the invariant; X_inv says it of X.
 -- What servers know is then the same before and after, so only what the change adds has to be known already.
 use Rattle.std.proofs.Common.{◌≡◌, ℕ, ◌<◌, ◌≤◌, Bool, true, false, cond, ◌&&◌, eqb, sym, refl, ◌∙◌, ⊎_elim, arith}
 use Rattle.std.proofs.lemmas.Bool.Decides.{nat_tests}

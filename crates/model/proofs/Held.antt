@@ -1,5 +1,5 @@
--- The changes of what servers know keep the invariant: holding a row, forwarding a pre-write, starting a write, and a crash; X-inv says it of X.
--- Of each it is shown first that nothing known is lost (X-mono), so that all that was known before is known after.
+-- The changes of what servers know keep the invariant: holding a row, forwarding a pre-write, starting a write, and a crash; X_inv says it of X.
+-- Of each it is shown first that nothing known is lost (X_mono), so that all that was known before is known after.
 use Rattle.std.proofs.Common.{◌≡◌, ℕ, ◌<◌, ◌≤◌, true, false, ◌&&◌, eqb, sym, ap, ◌∙◌, ⊎_elim, le_trans, arith}
 use Rattle.std.proofs.lemmas.Bool.Decides.{nat_tests}
 use Rattle.std.proofs.lemmas.Bool.{cases_eq, cases_Bool, or_cases}

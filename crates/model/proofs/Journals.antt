@@ -1,4 +1,4 @@
--- Each event moves the journal onward; X-on says it of X.
+-- Each event moves the journal onward; X_on says it of X.
 -- New tags are above all that their server knows, and by the invariant it knows the tags of all answered operations.
 use Rattle.std.proofs.Common.{◌≡◌, ℕ, ◌<◌, true, false, not, ◌&&◌, eqb, ⊎_elim, arith}
 use Rattle.std.proofs.lemmas.Bool.Decides.{nat_tests}

@@ -1,4 +1,4 @@
--- What a call does to the journal: nothing that is settled changes, a new tag is above those of all answered operations, and a read that is answered gives no less than it waits for; X-on says it of X.
+-- What a call does to the journal: nothing that is settled changes, a new tag is above those of all answered operations, and a read that is answered gives no less than it waits for; X_on says it of X.
 -- Each change of the journal is looked at once, and one after another they go on.
 use Rattle.std.proofs.Common.{◌≡◌, ℕ, ◌+◌, ◌<◌, ◌≤◌, Bool, true, false, sym, refl, ◌∙◌, ⊎_elim, arith}
 use Rattle.std.proofs.lemmas.Bool.Decides.{nat_tests}
