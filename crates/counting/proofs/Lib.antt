@@ -1,2 +1,4 @@
+pub mod Counts
 pub mod Searches
 pub mod Sums
+pub mod Ranges

@@ -93,6 +93,12 @@ none_is_least f g (suc n) e k l = go (least f g n) (none_is_least f g n) refl e
         (λ t. let c : ◌≡◌ {A = Option ℕ} (Some m) None = rw t at b in let z : ◌≡◌ {A = ℕ} 0 1 = cc in omega arith)
         (cases_Bool (f n && ltb (g n) (g m))))
 
+-- where none passes, it finds none
+pub none_is_found : (f : ℕ → Bool) (g : ℕ → ℕ) (n : ℕ) → ((k : ℕ) → k < n → f k ≡ false) → least f g n ≡ None
+unfolding least
+none_is_found f g zero none = refl
+none_is_found f g (suc n) none = ap (better f g n) (none_is_found f g n (λ k l. none k (omega arith))) ∙ ap (λ b. cond b (Some n) None) (none n (omega arith))
+
 -- the number that it finds has the smallest key, and is the lowest of those with that key
 pub least_is_smallest : (f : ℕ → Bool) (g : ℕ → ℕ) (n m : ℕ) → least f g n ≡ Some m → (k : ℕ) → k < n → f k ≡ true → (g m ≤ g k) × (g m ≡ g k → m ≤ k)
 unfolding least
