@@ -2,6 +2,7 @@
 ghost use Rattle.listing.specs.Lines.{bad_line, end_line, header_line, step_line, step_text, value_text};
 ghost use Rattle.schedule.specs.Headers.{plain_header};
 ghost use Rattle.schedule.specs.Steps.{plain_step};
+ghost use Rattle.std.specs.Fmt.{DisplaysOnOk};
 ghost use Rattle.std.specs.Prelude.{Some};
 
 use schedule::faults::RunFault;
@@ -24,8 +25,8 @@ impl fmt::Display for HeaderLine<'_> {
 
     fn fmt<W: fmt::Write>(&self, f: &mut fmt::Formatter<W>) -> fmt::Result {
         let servers = self.header.servers;
-        let kind = self.header.kind.number();
-        let wiring = self.header.wiring.number();
+        let kind = u32::from(self.header.kind);
+        let wiring = u32::from(self.header.wiring);
         write!(f, "ring {servers} kind {kind} wiring {wiring}")
     }
 }
@@ -42,19 +43,24 @@ impl fmt::Display for ValueText<'_> {
 
     fn fmt<W: fmt::Write>(&self, f: &mut fmt::Formatter<W>) -> fmt::Result {
         match self.kind {
-            Kind::Level => match Level::read(self.bytes) {
-                Ok(level) => write!(f, "{level}"),
-                Err(_) => Err(fmt::Error),
-            },
-            Kind::Mark => match Mark::read(self.bytes) {
-                Ok(mark) => write!(f, "{mark}"),
-                Err(_) => Err(fmt::Error),
-            },
+            Kind::Level => write_value::<Level, W>(f, self.bytes),
+            Kind::Mark => write_value::<Mark, W>(f, self.bytes),
         }
     }
 }
 
-// A step under a kind of value, as its letter and its parts.
+// Writes the value at the front of bytes.
+fn write_value<V: Value + fmt::Display, W: fmt::Write>(
+    f: &mut fmt::Formatter<W>,
+    bytes: &[u8],
+) -> fmt::Result
+    ensures { DisplaysOnOk W.write_str_gives f.old result (V.output (V.value bytes.now)) f.new }
+{
+    let value = V::read(bytes).map_err(|_| fmt::Error)?;
+    write!(f, "{value}")
+}
+
+// A step under a kind of value, as its letter and its parts. The letters of the codes are written out, so that each line shows what it prints.
 #[derive(Clone, Copy)]
 pub struct StepText<'a> {
     pub kind: Kind,

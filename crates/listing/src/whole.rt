@@ -16,10 +16,8 @@ pub fn list(heap: Global, input: &[u8]) -> Result<String, AllocError>
     ensures { IfOk result (λ text. string_bytes text ≡ listing_of input.now) }
 {
     let mut text = String::new(heap);
-    match write_listing(&mut text, heap, input) {
-        Ok(()) => Ok(text),
-        Err(error) => Err(error),
-    }
+    write_listing(&mut text, heap, input)?;
+    Ok(text)
 }
 
 // Appends the listing of an input.
@@ -29,7 +27,7 @@ fn write_listing(text: &mut String, heap: Global, input: &[u8]) -> Result<(), Al
     match read_schedule(heap, input) {
         Ok(schedule) => write_schedule(text, &schedule, input.len()),
         Err(ReadError::Fault(fault)) => text.writeln(BadLine { fault }),
-        Err(ReadError::NoMemory) => Err(AllocError),
+        Err(ReadError::NoMemory(error)) => Err(error),
     }
 }
 
@@ -45,15 +43,14 @@ fn write_schedule(text: &mut String, schedule: &Schedule, bytes: usize) -> Resul
 }
 
 // Appends the lines of all steps to a text.
+#[tactic(auto, using(crate::proofs::Steps::one_more_line, crate::proofs::Steps::no_more_lines))]
 fn write_steps(text: &mut String, kind: Kind, steps: &[Step]) -> Result<(), AllocError>
     ensures { OnOk result (string_bytes text.new ≡ string_bytes text.old ++ step_lines kind 1 (map plain_step steps.now)) }
 {
-    for i in 0..steps.len() {
-        let step = steps[i];
-        let number = i + 1;
+    for (i, step) in steps.iter().enumerate() {
         text.writeln(StepLine {
-            number,
-            text: StepText { kind, step },
+            number: i + 1,
+            text: StepText { kind, step: *step },
         })?;
     }
     Ok(())

@@ -1,15 +1,10 @@
 -- The bytes of a number read as it, and no other bytes do: by cases on how many groups there are, with the arithmetic of each.
-use Rattle.std.proofs.Common.{◌≡◌, ℕ, suc, ◌+◌, ◌-◌, ◌*◌, ◌/◌, ◌%◌, ◌<◌, ◌≤◌, true, false, eqb, ltb, List, [], ◌∷◌, ◌++◌, Ok, Err, Result, sym, ap, ◌∙◌, arith}
+use Rattle.std.proofs.Common.{◌≡◌, ℕ, suc, ◌+◌, ◌-◌, ◌*◌, ◌/◌, ◌%◌, ◌<◌, ◌≤◌, true, false, eqb, ltb, List, [], ◌∷◌, ◌++◌, Ok, Result, sym, ap, ◌∙◌, arith}
 use Rattle.std.proofs.lemmas.Bool.{eqb-false, ltb-true, ltb-false, lt-ltb, le-ltb, ne_eqb}
 use Rattle.numbers.specs.declared.faults.NumberFault.{NumberFault}
-use Rattle.numbers.specs.declared.faults.NumberFault.TheVariants.{Cut, TooLong, NotShortest}
 use Rattle.numbers.specs.Numbers.{number_at, number_bytes, number_limit, second_byte, third_byte}
 use Rattle.numbers.specs.Bytes.{AllBytes}
 use Rattle.numbers.proofs.Tests.{by_test}
-
--- Nothing is both read and refused.
-never_both : {A : Type 0} (v : A) (f : NumberFault) → ◌≡◌ {A = Result A NumberFault} (Err f) (Ok v) → ⊥
-never_both v f e = let z : ◌≡◌ {A = ℕ} 0 1 = cc in omega arith
 
 -- Equal answers have equal numbers and leave equal bytes.
 same_answer : (a n : ℕ) (xs ys : List ℕ) → ◌≡◌ {A = Result (ℕ × List ℕ) NumberFault} (Ok (a, xs)) (Ok (n, ys)) → (a ≡ n) × (xs ≡ ys)
@@ -42,11 +37,11 @@ ReadAs n bs rest = (bs ≡ number_bytes n ++ rest) × (n < number_limit)
 
 -- Three bytes that read as a number are its bytes.
 back_third : (place x y n : ℕ) (cs rest : List ℕ) → 128 ≤ x → x < 256 → 128 ≤ y → y < 256 → third_byte place (x - 128 + (y - 128) * 128) cs ≡ Ok (n, rest) → ReadAs n (x ∷ y ∷ cs) rest
-back_third place x y n [] rest a b c d e = absurd (never_both (n, rest) (Cut place) e)
+back_third place x y n [] rest a b c d e = cc
 back_third place x y n (z ∷ zs) rest a b c d e =
     by_test (ltb z 128)
     (λ p. by_test (eqb z 0)
-    (λ q. absurd (never_both (n, rest) (NotShortest place) (simp (p, q) at e)))
+    (λ q. let no = simp (p, q) at e in cc)
     (λ q. let lz = ltb-true z 128 p in
     let nz = eqb-false z 0 q in
     let s = same_answer (x - 128 + (y - 128) * 128 + z * 16384) n zs rest (simp (p, q) at e) in
@@ -61,15 +56,15 @@ back_third place x y n (z ∷ zs) rest a b c d e =
     let e3 : n / 16384 ≡ z = omega arith in
     let r = s.1 in
     (simp (t1, t2, e1, e2, e3) (ap (λ (ws : List ℕ). x ∷ y ∷ z ∷ ws) r), omega arith)))
-    (λ p. absurd (never_both (n, rest) (TooLong place) (simp p at e)))
+    (λ p. let no = simp p at e in cc)
 
 -- Two or three bytes that read as a number are its bytes.
 back_second : (place x n : ℕ) (ys rest : List ℕ) → 128 ≤ x → x < 256 → AllBytes ys → second_byte place (x - 128) ys ≡ Ok (n, rest) → ReadAs n (x ∷ ys) rest
-back_second place x n [] rest a b w e = absurd (never_both (n, rest) (Cut place) e)
+back_second place x n [] rest a b w e = cc
 back_second place x n (y ∷ ys) rest a b w e =
     by_test (ltb y 128)
     (λ p. by_test (eqb y 0)
-    (λ q. absurd (never_both (n, rest) (NotShortest place) (simp (p, q) at e)))
+    (λ q. let no = simp (p, q) at e in cc)
     (λ q. let ly = ltb-true y 128 p in
     let ny = eqb-false y 0 q in
     let s = same_answer (x - 128 + y * 128) n ys rest (simp (p, q) at e) in
@@ -85,7 +80,7 @@ back_second place x n (y ∷ ys) rest a b w e =
 
 -- Bytes that read as a number are its bytes and those behind them, and it is below the limit.
 pub no_other_bytes_read_as_a_number : (place n : ℕ) (bs rest : List ℕ) → AllBytes bs → number_at place bs ≡ Ok (n, rest) → ReadAs n bs rest
-no_other_bytes_read_as_a_number place n [] rest w e = absurd (never_both (n, rest) (Cut place) e)
+no_other_bytes_read_as_a_number place n [] rest w e = cc
 no_other_bytes_read_as_a_number place n (x ∷ xs) rest w e =
     by_test (ltb x 128)
     (λ p. let s = same_answer x n xs rest (simp p at e) in

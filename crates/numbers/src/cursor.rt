@@ -8,7 +8,7 @@ use crate::faults::NumberFault;
 // The bit that says that another byte follows, and how many values the other bits have.
 const TOP_BIT: u32 = 128;
 
-// What is left of an input, and how long the whole input is.
+// What is left of an input, and how long the whole input is. Clauses name the two fields: with a model of its own it could not be `Copy`, which its readers need to go back after a fault.
 #[derive(Clone, Copy)]
 pub struct Cursor<'a> {
     rest: &'a [u8],
@@ -37,24 +37,14 @@ impl<'a> Cursor<'a> {
     pub fn byte(&mut self) -> Option<u8>
         ensures { TakesByte result self.old self.new }
     {
-        if self.rest.len() == 0 {
-            return None;
-        }
-        let byte = self.rest[0];
-        self.rest = &self.rest[1..];
-        Some(byte)
+        self.rest.split_off_first().copied()
     }
 
     // Takes so many bytes; they stay where they are in the input.
     pub fn bytes(&mut self, count: usize) -> Option<&'a [u8]>
         ensures { TakesBytes count result self.old self.new }
     {
-        if self.rest.len() < count {
-            return None;
-        }
-        let bytes = &self.rest[0..count];
-        self.rest = &self.rest[count..];
-        Some(bytes)
+        self.rest.split_off(..count)
     }
 
     // Reads a number.
@@ -96,9 +86,6 @@ impl<'a> Cursor<'a> {
     fn group(&mut self, place: usize) -> Result<u8, NumberFault>
         ensures { Reads (λ (n : ℕ). n) result (group_of place (left self.old)) self.old self.new }
     {
-        match self.byte() {
-            Some(byte) => Ok(byte),
-            None => Err(NumberFault::Cut { place }),
-        }
+        self.byte().ok_or(NumberFault::Cut { place })
     }
 }

@@ -27,6 +27,7 @@ pub fn number_len(number: u32) -> usize
 }
 
 // Writes a number at a place and answers how many bytes it takes. Bytes before and behind them stay, and a refusal leaves all as it was.
+// The buffer is lent whole, with a place, since callers go on to write behind.
 pub fn write_number(out: &mut [u8], at: usize, number: u32) -> Result<usize, WriteRefusal>
     ensures answer { result ≡ write_number_answer at number out.old }
     ensures after { out.new ≡ laid_or_kept result at (number_bytes number) out.old }
@@ -43,6 +44,7 @@ pub fn write_number(out: &mut [u8], at: usize, number: u32) -> Result<usize, Wri
 }
 
 // Writes the groups of a number at a place where there is room for them.
+#[tactic(auto, using(crate::proofs::Laying::set_lays_one, crate::proofs::Laying::set_lays_two, crate::proofs::Laying::set_lays_three))]
 fn put_groups(out: &mut [u8], at: usize, number: u32)
     requires { (number < number_limit) × (at + length (number_bytes number) ≤ length out.old) }
     ensures { out.new ≡ lay_at at (number_bytes number) out.old }

@@ -1,7 +1,8 @@
 -- Bytes that read as a part are its bytes: a row that was read is taken apart, and each part, a number, a value or a meaning, gives its bytes back.
-use Rattle.std.proofs.Common.{◌≡◌, ℕ, suc, ◌≤◌, true, ◌&&◌, eqb, ltb, leb, List, [], ◌∷◌, ◌++◌, length, take, drop, is_some, Some, None, Ok, Err, Option, Result, sym, refl, ap, ◌∙◌, subst, arith}
+use Rattle.std.proofs.Common.{◌≡◌, ℕ, suc, ◌≤◌, true, eqb, ltb, List, [], ◌∷◌, ◌++◌, length, take, drop, is_some, Some, None, Ok, Err, Option, Result, sym, refl, ap, ◌∙◌, subst, arith}
 use Rattle.std.proofs.lemmas.List.{length-take-le, take-append-drop}
-use Rattle.std.proofs.lemmas.Bool.{and_from, cond-false, cond-true, eq-eqb, eqb-true, lt-ltb, ltb-false}
+use Rattle.std.proofs.lemmas.Option.{none-some}
+use Rattle.std.proofs.lemmas.Bool.{and_from, cond-false, cond-true, eq-eqb, lt-ltb, ltb-false}
 use Rattle.numbers.specs.Bytes.{AllBytes}
 use Rattle.numbers.specs.Cursors.{number_in, place_of}
 use Rattle.numbers.specs.Numbers.{number_bytes, number_limit}
@@ -9,7 +10,6 @@ use Rattle.numbers.specs.declared.faults.NumberFault.{NumberFault}
 use Rattle.numbers.proofs.RoundTrip.{no_other_bytes_read_as_a_number}
 use Rattle.numbers.proofs.Tests.{by_test}
 use Rattle.values.specs.declared.kind.Kind.{Kind}
-use Rattle.values.specs.declared.kind.Kind.TheVariants.{Level, Mark}
 use Rattle.values.specs.declared.fault.ValueFault.{ValueFault}
 use Rattle.values.specs.declared.fault.ValueFault.TheVariants.{Cut, NotAllowed}
 use Rattle.values.specs.Kinds.{bytes_allowed, kind_number, kind_of, value_fault, value_length}
@@ -17,7 +17,6 @@ use Rattle.schedule.specs.declared.faults.BadValue.{BadValue}
 use Rattle.schedule.specs.declared.faults.StepFault.{StepFault}
 use Rattle.schedule.specs.declared.faults.StepFault.TheVariants.{Number, OutOfRange, Value}
 use Rattle.schedule.specs.declared.headers.WiringKind.{WiringKind}
-use Rattle.schedule.specs.declared.headers.WiringKind.TheVariants as wiring
 use Rattle.schedule.specs.Headers.{servers_of, wiring_number, wiring_of}
 use Rattle.schedule.specs.Reading.{and_then, header_number, in_range, in_number, in_value, number_of, value_of, value_or_fault}
 use Rattle.schedule.specs.Bytes.{number_fits, value_whole}
@@ -26,10 +25,6 @@ use Rattle.schedule.proofs.ReadsBack.{same_allowed}
 -- Nothing is both read and refused.
 pub never_both : {A E : Type 0} (x : A) (fault : E) → ◌≡◌ {A = Result A E} (Err fault) (Ok x) → ⊥
 never_both x fault e = let z : ◌≡◌ {A = ℕ} 0 1 = cc in omega arith
-
--- Nothing is both there and not.
-pub never_some : {A : Type 0} (x : A) → ◌≡◌ {A = Option A} None (Some x) → ⊥
-never_some x e = let z : ◌≡◌ {A = ℕ} 0 1 = cc in omega arith
 
 -- Equal answers are equal in both parts.
 pub same_read : {A E : Type 0} (x y : A) (xs ys : List ℕ) → ◌≡◌ {A = Result (A × List ℕ) E} (Ok (x, xs)) (Ok (y, ys)) → (x ≡ y) × (xs ≡ ys)
@@ -73,10 +68,10 @@ checked_value_back (Some fault) place size v bs rest e = absurd (never_both (v, 
 enough_and_allowed : (kind : Kind) (bs : List ℕ) → value_fault kind bs ≡ None → (value_length kind ≤ length bs) × (bytes_allowed kind bs ≡ true)
 enough_and_allowed kind bs e =
     by_test (ltb (length bs) (value_length kind))
-    (λ t. absurd (never_some Cut (sym e ∙ cond-true _ _ _ t)))
+    (λ t. absurd (none-some Cut (sym e ∙ cond-true _ _ _ t)))
     (λ f. by_test (bytes_allowed kind bs)
     (λ t. (ltb-false (length bs) (value_length kind) f, t))
-    (λ g. absurd (never_some NotAllowed (sym e ∙ (cond-false _ _ _ f ∙ cond-false _ _ _ g)))))
+    (λ g. absurd (none-some NotAllowed (sym e ∙ (cond-false _ _ _ f ∙ cond-false _ _ _ g)))))
 
 -- Bytes that read as a value are it and the bytes behind it, and it is whole.
 pub value_back : (total : ℕ) (kind : Kind) (v bs rest : List ℕ) → in_value (value_of total kind bs) ≡ Ok (v, rest) → (bs ≡ v ++ rest) × (value_whole kind v ≡ true)
@@ -105,28 +100,12 @@ header_number_back meaning x total bs rest w e =
 
 -- A number of servers means itself.
 pub servers_back : (n m : ℕ) → servers_of n ≡ Some m → (n ≡ m) × (is_some (servers_of n) ≡ true)
-servers_back n m e =
-    by_test (leb 2 n && leb n 8)
-    (λ t. let some : ◌≡◌ {A = Option ℕ} (Some n) (Some m) = sym (cond-true _ _ _ t) ∙ e in let same : n ≡ m = cc in (same, ap is_some e))
-    (λ f. absurd (never_some m (sym (cond-false _ _ _ f) ∙ e)))
+servers_back n m e = grind arith
 
 -- A number that means a kind is the number of the kind.
 pub kind_back : (n : ℕ) (kind : Kind) → kind_of n ≡ Some kind → n ≡ kind_number kind
-kind_back n kind e =
-    by_test (eqb n 1)
-    (λ t. let some : ◌≡◌ {A = Option Kind} (Some Level) (Some kind) = sym (cond-true _ _ _ t) ∙ e in let same : Level ≡ kind = cc in eqb-true n 1 t ∙ ap kind_number same)
-    (λ f. by_test (eqb n 2)
-    (λ t. let some : ◌≡◌ {A = Option Kind} (Some Mark) (Some kind) = sym (cond-true _ _ _ t) ∙ (sym (cond-false _ _ _ f) ∙ e) in
-    let same : Mark ≡ kind = cc in eqb-true n 2 t ∙ ap kind_number same)
-    (λ g. absurd (never_some kind (sym (cond-false _ _ _ g) ∙ (sym (cond-false _ _ _ f) ∙ e)))))
+kind_back n kind e = grind arith
 
 -- A number that means a wiring is the number of the wiring.
 pub wiring_back : (n : ℕ) (w : WiringKind) → wiring_of n ≡ Some w → n ≡ wiring_number w
-wiring_back n w e =
-    by_test (eqb n 1)
-    (λ t. let some : ◌≡◌ {A = Option WiringKind} (Some wiring.Line) (Some w) = sym (cond-true _ _ _ t) ∙ e in
-    let same : wiring.Line ≡ w = cc in eqb-true n 1 t ∙ ap wiring_number same)
-    (λ f. by_test (eqb n 2)
-    (λ t. let some : ◌≡◌ {A = Option WiringKind} (Some wiring.Pick) (Some w) = sym (cond-true _ _ _ t) ∙ (sym (cond-false _ _ _ f) ∙ e) in
-    let same : wiring.Pick ≡ w = cc in eqb-true n 2 t ∙ ap wiring_number same)
-    (λ g. absurd (never_some w (sym (cond-false _ _ _ g) ∙ (sym (cond-false _ _ _ f) ∙ e)))))
+wiring_back n w e = grind arith

@@ -1,6 +1,7 @@
 -- Bytes that read as steps are their bytes: the body of each step by its code, and the steps one after another.
-use Rattle.std.proofs.Common.{◌≡◌, ℕ, zero, suc, ◌+◌, ◌≤◌, true, cond, not, ◌&&◌, eqb, List, [], ◌∷◌, ◌++◌, length, Some, None, Ok, Err, Option, Result, sym, refl, ap, ◌∙◌, subst, arith}
-use Rattle.std.proofs.lemmas.Bool.{and_from, cond-false, cond-true, eqb-true, not_from_false}
+use Rattle.std.proofs.Common.{◌≡◌, ℕ, zero, suc, ◌+◌, ◌≤◌, true, not, ◌&&◌, eqb, List, [], ◌∷◌, ◌++◌, length, Some, None, Ok, Err, Option, Result, sym, refl, ap, ◌∙◌, subst, arith}
+use Rattle.std.proofs.lemmas.Option.{none-some}
+use Rattle.std.proofs.lemmas.Bool.{and_from, cond-false, cond-true, not_from_false}
 use Rattle.std.specs.List.{flat_map}
 use Rattle.numbers.specs.Bytes.{AllBytes}
 use Rattle.numbers.specs.Cursors.{place_of}
@@ -21,7 +22,7 @@ use Rattle.schedule.specs.RoundTrip.{steps_writable}
 use Rattle.schedule.specs.Steps.{PlainStep, code_number, code_of, code_under, write, read, give_up, turn, deliver, crash, notice, pick}
 use Rattle.schedule.specs.Whole.{StepsRead, steps_of}
 use Rattle.schedule.specs.Bytes.{PlainParts, code_fits, number_fits, parts_of, second_bytes, second_fits, step_bytes, step_writable, value_bytes, value_fits}
-use Rattle.schedule.proofs.PartsBack.{bytes_behind, never_both, never_some, number_back, row_parts, same_read, value_back}
+use Rattle.schedule.proofs.PartsBack.{bytes_behind, never_both, number_back, row_parts, same_read, value_back}
 use Rattle.schedule.proofs.ReadsBack.{regroup}
 use Rattle.schedule.proofs.Shrinking.{a_step_takes_a_byte}
 use Rattle.schedule.proofs.StepsOf.{a_fault_ends_the_steps, no_step_more, one_step_more}
@@ -101,26 +102,15 @@ body_back total kind Crash bs s rest w e = one_back crash total kind Crash bs s 
 body_back total kind Notice bs s rest w e = two_back notice total kind Notice bs s rest (λ m n. refl) w e
 body_back total kind Pick bs s rest w e = one_back pick total kind Pick bs s rest (λ n. refl) w e
 
--- A byte that is a code's, or else is found further on.
-or_further : (b : ℕ) (x code : Code) (more : Option Code) → (more ≡ Some code → b ≡ code_number code)
-    → cond (eqb b (code_number x)) (Some x) more ≡ Some code → b ≡ code_number code
-or_further b x code more further e =
-    by_test (eqb b (code_number x))
-    (λ t. let some : ◌≡◌ {A = Option Code} (Some x) (Some code) = sym (cond-true _ _ _ t) ∙ e in
-    let same : x ≡ code = cc in eqb-true b (code_number x) t ∙ ap code_number same)
-    (λ f. further (sym (cond-false _ _ _ f) ∙ e))
-
 -- A byte that stands for a code is its number.
 code_back : (b : ℕ) (code : Code) → code_of b ≡ Some code → b ≡ code_number code
-code_back b code =
-    or_further b Write code _ (or_further b Read code _ (or_further b GiveUp code _ (or_further b Turn code _
-    (or_further b Deliver code _ (or_further b Crash code _ (or_further b Notice code _ (or_further b Pick code None (λ e. absurd (never_some code e)))))))))
+code_back b code e = grind arith
 
 -- A byte that stands for a code under a wiring is its number, and the code may be written there.
 known_code_back : (wiring : WiringKind) (b : ℕ) (code : Code) → code_under wiring b ≡ Some code → (b ≡ code_number code) × (code_fits wiring code ≡ true)
 known_code_back wiring b code e =
     by_test (is_line wiring && eqb b (code_number Pick))
-    (λ t. absurd (never_some code (sym (cond-true _ _ _ t) ∙ e)))
+    (λ t. absurd (none-some code (sym (cond-true _ _ _ t) ∙ e)))
     (λ f. let same = code_back b code (sym (cond-false _ _ _ f) ∙ e) in
     (same, ap (λ k. not (is_line wiring && eqb k (code_number Pick))) (sym same) ∙ not_from_false _ f))
 
@@ -185,7 +175,7 @@ one_step_back turns total kind wiring number b bs steps (Ok p) behind l w e r =
     )
 one_step_back turns total kind wiring number b bs steps (Err fault) behind l w e r =
     let both = sym e ∙ a_fault_ends_the_steps total kind wiring number (b ∷ bs) fault r in
-    absurd (never_some (run.Step (numbered number fault)) (ap (λ (q : StepsRead). q.1) both))
+    absurd (none-some (run.Step (numbered number fault)) (ap (λ (q : StepsRead). q.1) both))
 
 -- Steps that were read without a fault may be written, and their bytes are all.
 pub no_other_bytes_read_as_steps : (turns total : ℕ) (kind : Kind) (wiring : WiringKind) (number : ℕ) (bs : List ℕ) (steps : List PlainStep)

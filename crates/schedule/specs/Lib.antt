@@ -5,3 +5,4 @@ pub mod Reading
 pub mod Whole
 pub mod Bytes
 pub mod RoundTrip
+pub mod Texts

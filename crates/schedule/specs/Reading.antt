@@ -1,6 +1,7 @@
 -- What the bytes of a header and of a step read as. `total` is the length of the whole input, so places are told by how much is left.
-use Rattle.std.specs.Prelude.{ℕ, List, [], ◌∷◌, take, drop, Some, None, Ok, Err, Option, Result}
-use Rattle.numbers.specs.Cursors.{number_in, place_of}
+use Rattle.std.specs.Prelude.{◌≡◌, ℕ, List, [], ◌∷◌, take, drop, Some, None, Ok, Err, Option, Result}
+use Rattle.numbers.specs.Cursors.{ReadsOn, left, number_in, place_of}
+use Rattle.numbers.specs.declared.cursor.Cursor.{Cursor}
 use Rattle.numbers.specs.declared.faults.NumberFault.{NumberFault}
 use Rattle.values.specs.declared.kind.Kind.{Kind}
 use Rattle.values.specs.declared.fault.ValueFault.{ValueFault}
@@ -51,6 +52,12 @@ in_range None place rest = Err (OutOfRange place)
 -- A number of the header, whose meaning is looked up as soon as it is read.
 abbrev pub header_number : {A : Type 0} → (ℕ → Option A) → ℕ → List ℕ → Result (A × List ℕ) StepFault
 header_number meaning total bytes = and_then (number_of total bytes) (λ n rest. in_range (meaning n) (place_of total bytes) rest)
+
+-- What a call that reads a number of the header answers and leaves, under whatever meaning its look-up always gives.
+abbrev pub ReadsMeaning : {A : Type 0} → (ℕ → Option A → Type 0) → Result A StepFault → Cursor → Cursor → Type 0
+ReadsMeaning {A = A} gives result before after =
+    (meaning : ℕ → Option A) → ((n : ℕ) (found : Option A) → gives n found → found ≡ meaning n)
+    → ReadsOn (λ (x : A). x) result (header_number meaning before.total (left before)) before after
 
 -- The header: how many servers, the kind of value, the wiring and the first value.
 abbrev pub header_of : ℕ → List ℕ → Result (PlainHeader × List ℕ) StepFault

@@ -1,7 +1,6 @@
 -- What a whole input reads as: its header, its steps up to the first fault, and that fault.
 use Rattle.std.specs.Prelude.{◌≡◌, ℕ, zero, suc, ◌+◌, cond, List, [], ◌∷◌, map, length, Some, None, Ok, Err, vec_items, Option, Result, nat_le}
 use Rattle.values.specs.declared.kind.Kind.{Kind}
-use Rattle.schedule.specs.declared.faults.FaultyStep.{FaultyStep}
 use Rattle.schedule.specs.declared.faults.StepFault.{StepFault}
 use Rattle.schedule.specs.declared.faults.RunFault.{RunFault}
 use Rattle.schedule.specs.declared.faults.RunFault.TheVariants.{TooLong, Step}
@@ -52,11 +51,6 @@ plain_schedule s = record { header = plain_header s.header; steps = map plain_st
 abbrev pub with_header : PlainHeader → StepsRead → PlainSchedule
 with_header h read = record { header = h; steps = read.0; fault = read.1 }
 
--- A part that was read, or its fault with the number of its step.
-abbrev pub fault_numbered : {A : Type 0} → ℕ → Result A StepFault → Result A FaultyStep
-fault_numbered number (Ok x) = Ok x
-fault_numbered number (Err fault) = Err (numbered number fault)
-
 -- A header that was read, or its fault, which is one of step 0.
 abbrev pub header_numbered : Result (PlainHeader × List ℕ) StepFault → Result (PlainHeader × List ℕ) RunFault
 header_numbered (Ok x) = Ok x
@@ -75,4 +69,4 @@ schedule_of bytes = cond (nat_le (length bytes) most_bytes) (header_then (length
 abbrev pub ReadsSchedule : Result Schedule ReadError → List ℕ → Type 0
 ReadsSchedule (Ok schedule) bytes = schedule_of bytes ≡ Ok (plain_schedule schedule)
 ReadsSchedule (Err (Fault fault)) bytes = schedule_of bytes ≡ Err fault
-ReadsSchedule (Err NoMemory) bytes = Unit {0}
+ReadsSchedule (Err (NoMemory error)) bytes = Unit {0}

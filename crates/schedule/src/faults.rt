@@ -1,10 +1,13 @@
 // What can be wrong with a schedule that is read: layer, number, place and step of each fault.
 ghost use Rattle.schedule.specs.Faults.{fault_layer, fault_number, fault_place, fault_step, layer_letter, numbered, step_fault_layer, step_fault_number, step_fault_place};
+ghost use Rattle.schedule.specs.Texts.{run_fault_text, step_fault_text};
 ghost use Rattle.schedule.specs.declared.faults.RunFault.TheVariants.{Step};
 ghost use Rattle.schedule.specs.declared.faults.StepFault.TheVariants.{Number, Value};
-ghost use Rattle.std.specs.Prelude.{◌≡◌};
+ghost use Rattle.std.specs.Prelude.{◌≡◌, Some};
 
 use numbers::faults::NumberFault;
+use std::error::Error;
+use std::fmt;
 use values::fault::ValueFault;
 
 // The layer that found a fault.
@@ -16,7 +19,7 @@ pub enum Layer {
 }
 
 impl Layer {
-    // The letter that names the layer in print.
+    // The letter that names the layer in print. A char and no `Display` of its own, since callers also compare it; it prints as it is.
     pub fn letter(self) -> char
         ensures { result ≡ layer_letter self }
     {
@@ -64,6 +67,7 @@ impl From<BadValue> for StepFault {
     }
 }
 
+// `number` and `place` tell something of a fault and convert nothing: no fault can be had back from them.
 impl StepFault {
     // The layer that found the fault.
     pub fn layer(self) -> Layer
@@ -94,8 +98,7 @@ impl StepFault {
     {
         match self {
             StepFault::Number(fault) => fault.place(),
-            StepFault::UnknownCode { place } => place,
-            StepFault::OutOfRange { place } => place,
+            StepFault::UnknownCode { place } | StepFault::OutOfRange { place } => place,
             StepFault::Value(bad) => bad.place,
         }
     }
@@ -107,6 +110,23 @@ impl StepFault {
         FaultyStep { fault: self, step }
     }
 }
+
+impl fmt::Display for StepFault {
+    ghost output = { λ fault. Some (step_fault_text fault) };
+
+    fn fmt<W: fmt::Write>(&self, f: &mut fmt::Formatter<W>) -> fmt::Result {
+        match self {
+            StepFault::Number(fault) => write!(f, "{fault}"),
+            StepFault::UnknownCode { place } => {
+                write!(f, "no step begins with the byte at {place}")
+            }
+            StepFault::OutOfRange { place } => write!(f, "the number at {place} means nothing"),
+            StepFault::Value(bad) => write!(f, "{}, at {}", bad.fault, bad.place),
+        }
+    }
+}
+
+impl Error for StepFault {}
 
 // A fault and the number of its step: 0 is the header, steps count from 1.
 #[derive(Clone, Copy, PartialEq, Eq, Debug)]
@@ -132,6 +152,7 @@ impl From<FaultyStep> for RunFault {
     }
 }
 
+// Here too `number`, `place` and `step` tell something of a fault and convert nothing.
 impl RunFault {
     // The layer that found the fault.
     pub fn layer(self) -> Layer
@@ -173,3 +194,16 @@ impl RunFault {
         }
     }
 }
+
+impl fmt::Display for RunFault {
+    ghost output = { λ fault. Some (run_fault_text fault) };
+
+    fn fmt<W: fmt::Write>(&self, f: &mut fmt::Formatter<W>) -> fmt::Result {
+        match self {
+            RunFault::TooLong => write!(f, "the input is longer than any schedule"),
+            RunFault::Step(faulty) => write!(f, "step {}: {}", faulty.step, faulty.fault),
+        }
+    }
+}
+
+impl Error for RunFault {}

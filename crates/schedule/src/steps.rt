@@ -1,8 +1,11 @@
 // The steps of a schedule and their codes.
 ghost use Rattle.schedule.specs.Steps.{code_letter, code_number, code_of, code_under, step_code};
-ghost use Rattle.std.specs.Prelude.{◌≡◌};
+ghost use Rattle.schedule.specs.Texts.{unknown_code_text};
+ghost use Rattle.std.specs.Prelude.{◌≡◌, Some, ok_or};
 
 use crate::headers::WiringKind;
+use std::error::Error;
+use std::fmt;
 
 // What a step does, as its first byte says.
 #[derive(Clone, Copy, PartialEq, Eq, Debug)]
@@ -17,12 +20,16 @@ pub enum Code {
     Pick,
 }
 
-impl Code {
-    // The byte that a step of this code begins with.
-    pub fn number(self) -> u8
-        ensures { result ≡ code_number self }
-    {
-        match self {
+// A byte that no step begins with. Each conversion has an error of its own, which prints in its own words.
+#[derive(Clone, Copy, PartialEq, Eq, Debug)]
+pub struct UnknownCode(pub u8);
+
+// The byte that a step of a code begins with.
+impl From<Code> for u8 {
+    ghost from_gives = { λ code byte. byte ≡ code_number code };
+
+    fn from(code: Code) -> u8 {
+        match code {
             Code::Write => 1,
             Code::Read => 2,
             Code::GiveUp => 3,
@@ -33,8 +40,41 @@ impl Code {
             Code::Pick => 8,
         }
     }
+}
 
-    // The letter that names the code in print.
+// The code that a byte stands for, if it stands for one.
+impl TryFrom<u8> for Code {
+    type Error = UnknownCode;
+
+    ghost try_from_gives = { λ byte read. read ≡ ok_or (code_of byte) (record { 0 = byte }) };
+
+    fn try_from(byte: u8) -> Result<Code, UnknownCode> {
+        match byte {
+            1 => Ok(Code::Write),
+            2 => Ok(Code::Read),
+            3 => Ok(Code::GiveUp),
+            4 => Ok(Code::Turn),
+            5 => Ok(Code::Deliver),
+            6 => Ok(Code::Crash),
+            7 => Ok(Code::Notice),
+            8 => Ok(Code::Pick),
+            _ => Err(UnknownCode(byte)),
+        }
+    }
+}
+
+impl fmt::Display for UnknownCode {
+    ghost output = { λ unknown. Some (unknown_code_text unknown) };
+
+    fn fmt<W: fmt::Write>(&self, f: &mut fmt::Formatter<W>) -> fmt::Result {
+        write!(f, "no step begins with the byte {}", self.0)
+    }
+}
+
+impl Error for UnknownCode {}
+
+impl Code {
+    // The letter that names the code in print. A method, since `char::from(code)` would look like the code's number.
     pub fn letter(self) -> char
         ensures { result ≡ code_letter self }
     {
@@ -50,31 +90,14 @@ impl Code {
         }
     }
 
-    // The code that a byte stands for, if it stands for one.
-    pub fn from_number(number: u8) -> Option<Code>
-        ensures { result ≡ code_of number }
-    {
-        match number {
-            1 => Some(Code::Write),
-            2 => Some(Code::Read),
-            3 => Some(Code::GiveUp),
-            4 => Some(Code::Turn),
-            5 => Some(Code::Deliver),
-            6 => Some(Code::Crash),
-            7 => Some(Code::Notice),
-            8 => Some(Code::Pick),
-            _ => None,
-        }
-    }
-
     // The code that a byte stands for under a wiring: the line wiring knows no picks.
     pub fn under(wiring: WiringKind, number: u8) -> Option<Code>
         ensures { result ≡ code_under wiring number }
     {
-        if wiring.is_line() && number == Code::Pick.number() {
+        if wiring.is_line() && number == u8::from(Code::Pick) {
             return None;
         }
-        Code::from_number(number)
+        Code::try_from(number).ok()
     }
 }
 

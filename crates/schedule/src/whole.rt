@@ -1,19 +1,21 @@
 // Reading a whole input: the header, and every step up to the first fault.
-ghost use Rattle.std.specs.Prelude.{◌≡◌, ◌≤◌, map, length, IfOk};
+ghost use Rattle.std.specs.Prelude.{◌≡◌, ◌≤◌, map, length, IfOk, Some};
 ghost use Rattle.numbers.specs.Cursors.{Reads, left};
 ghost use Rattle.schedule.specs.Headers.{plain_header};
 ghost use Rattle.schedule.specs.Reading.{header_of};
 ghost use Rattle.schedule.specs.RoundTrip.{SchedulesReadBack};
 ghost use Rattle.schedule.specs.Steps.{plain_step};
-ghost use Rattle.schedule.specs.Whole.{ReadsSchedule, fault_numbered, header_numbered, most_bytes, steps_of};
+ghost use Rattle.schedule.specs.Texts.{read_error_text};
+ghost use Rattle.schedule.specs.Whole.{ReadsSchedule, header_numbered, most_bytes, steps_of};
 ghost use Rattle.schedule.specs.declared.whole.ReadError.TheVariants.{Fault, NoMemory};
 
-use crate::faults::{FaultyStep, RunFault, StepFault};
-use crate::headers::{Header, WiringKind};
+use crate::faults::RunFault;
+use crate::headers::{Format, Header};
 use crate::reader::Reader;
 use crate::steps::Step;
 use std::alloc::{AllocError, Global};
-use values::kind::Kind;
+use std::error::Error;
+use std::fmt;
 
 // No schedule has more bytes.
 pub const MOST_BYTES: usize = 65_536;
@@ -27,12 +29,12 @@ pub struct Schedule<'a> {
 }
 
 // Why no schedule was read.
-#[derive(Clone, Copy, Drop)]
+#[derive(Clone, Copy, Debug, Drop)]
 pub enum ReadError {
     // The header is faulty, or the input too long.
     Fault(RunFault),
     // There is no memory for the steps.
-    NoMemory,
+    NoMemory(AllocError),
 }
 
 impl From<RunFault> for ReadError {
@@ -44,12 +46,25 @@ impl From<RunFault> for ReadError {
 }
 
 impl From<AllocError> for ReadError {
-    ghost from_gives = { λ f r. r ≡ NoMemory };
+    ghost from_gives = { λ f r. r ≡ NoMemory f };
 
-    fn from(_error: AllocError) -> ReadError {
-        ReadError::NoMemory
+    fn from(error: AllocError) -> ReadError {
+        ReadError::NoMemory(error)
     }
 }
+
+impl fmt::Display for ReadError {
+    ghost output = { λ error. Some (read_error_text error) };
+
+    fn fmt<W: fmt::Write>(&self, f: &mut fmt::Formatter<W>) -> fmt::Result {
+        match self {
+            ReadError::Fault(fault) => write!(f, "{fault}"),
+            ReadError::NoMemory(_) => write!(f, "there is no memory for the steps"),
+        }
+    }
+}
+
+impl Error for ReadError {}
 
 // Reads an input up to its first fault. Written out, a schedule reads back as the same header and steps, and no other bytes read as those.
 pub fn read_schedule<'a>(heap: Global, input: &'a [u8]) -> Result<Schedule<'a>, ReadError>
@@ -68,7 +83,7 @@ fn read_up_to_fault<'a>(heap: Global, input: &'a [u8]) -> Result<Schedule<'a>, R
     }
     let mut reader = Reader::new(input);
     let header = header_first(&mut reader)?;
-    let (steps, fault) = all_steps(heap, &mut reader, header.kind, header.wiring)?;
+    let (steps, fault) = all_steps(heap, &mut reader, header.format())?;
     Ok(Schedule {
         header,
         steps,
@@ -80,41 +95,30 @@ fn read_up_to_fault<'a>(heap: Global, input: &'a [u8]) -> Result<Schedule<'a>, R
 fn header_first<'a>(reader: &mut Reader<'a>) -> Result<Header<'a>, RunFault>
     ensures { Reads plain_header result (header_numbered (header_of reader.old.cursor.total (left reader.old.cursor))) reader.old.cursor reader.new.cursor }
 {
-    Ok(numbered_by(0, reader.header())?)
-}
-
-// Adds the number of the step to its fault.
-fn numbered_by<T>(step: usize, read: Result<T, StepFault>) -> Result<T, FaultyStep>
-    ensures { result ≡ fault_numbered step read }
-{
-    match read {
-        Ok(part) => Ok(part),
-        Err(fault) => Err(fault.in_step(step)),
-    }
+    reader
+        .header()
+        .map_err(|fault| RunFault::Step(fault.in_step(0)))
 }
 
 // Reads every step that is left up to the first fault.
 fn all_steps<'a>(
     heap: Global,
     reader: &mut Reader<'a>,
-    kind: Kind,
-    wiring: WiringKind,
+    format: Format,
 ) -> Result<(Vec<Step<'a>>, Option<RunFault>), AllocError>
     requires { length (left reader.old.cursor) ≤ most_bytes }
-    ensures { IfOk result (λ p. steps_of reader.old.cursor.total kind wiring 1 (left reader.old.cursor) ≡ (map plain_step p.0.items, p.1)) }
+    ensures { IfOk result (λ p. steps_of reader.old.cursor.total format.kind format.wiring 1 (left reader.old.cursor) ≡ (map plain_step p.0.items, p.1)) }
 {
     let mut steps = Vec::new(heap);
+    // No `collect`: the steps before a fault are kept beside it.
     loop {
-        let next = match reader.step(kind, wiring) {
-            Ok(next) => next,
+        match reader.step(format) {
+            Ok(Some(step)) => steps.push(step)?,
+            Ok(None) => return Ok((steps, None)),
             Err(fault) => {
                 let faulty = fault.in_step(steps.len() + 1);
                 return Ok((steps, Some(faulty.into())));
             }
-        };
-        let Some(step) = next else {
-            return Ok((steps, None));
-        };
-        steps.push(step)?;
+        }
     }
 }

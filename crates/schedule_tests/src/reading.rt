@@ -1,12 +1,11 @@
 // Whole schedules: the sample, a schedule with marks and picks, and the longest there are.
-use schedule::headers::WiringKind;
+use numbers::faults::WriteRefusal;
 use schedule::steps::Step;
 use schedule::whole::{MOST_BYTES, ReadError, Schedule, read_schedule};
 use schedule_writer::writer::{write_header, write_step};
 use std::alloc::Global;
 use std::process::Abort;
 use std::test::Fail;
-use values::kind::Kind;
 
 // Ten steps on a ring of two servers.
 const SAMPLE: &[u8] =
@@ -21,29 +20,21 @@ fn read<'a>(heap: Global, input: &'a [u8]) -> Result<Schedule<'a>, Fail> {
     match read_schedule(heap, input) {
         Ok(schedule) => Ok(schedule),
         Err(ReadError::Fault(_)) => Err(Fail::new("a faulty header")),
-        Err(ReadError::NoMemory) => Err(Fail::new("no memory")),
+        Err(ReadError::NoMemory(error)) => Err(error.into()),
     }
 }
 
-// Appends the bytes of a header.
-fn append_header(rt: &impl Abort, bytes: &mut Vec<u8>, schedule: &Schedule) -> Result<(), Fail> {
-    let mut part = [0u8; 16];
-    let size = write_header(&mut part, schedule.header)?;
-    assert!(rt; size <= 16);
-    bytes.extend_from_slice(&part[0..size])?;
-    Ok(())
-}
-
-// Appends the bytes of a step.
-fn append_step(
+// Appends the bytes that are written.
+fn append<F: FnOnce(&mut [u8]) -> Result<usize, WriteRefusal>>(
     rt: &impl Abort,
     bytes: &mut Vec<u8>,
-    kind: Kind,
-    wiring: WiringKind,
-    step: Step,
-) -> Result<(), Fail> {
+    write: F,
+) -> Result<(), Fail>
+    requires { F.IsAlwaysCallable write }
+{
+    // A writer fills the front of a buffer and answers how much, since it has no heap.
     let mut part = [0u8; 16];
-    let size = write_step(&mut part, kind, wiring, step)?;
+    let size = write(&mut part)?;
     assert!(rt; size <= 16);
     bytes.extend_from_slice(&part[0..size])?;
     Ok(())
@@ -61,14 +52,13 @@ fn letters(heap: Global, schedule: &Schedule) -> Result<String, Fail> {
 // The bytes of a schedule, written part by part.
 fn written(rt: &impl Abort, heap: Global, schedule: &Schedule) -> Result<Vec<u8>, Fail> {
     let mut bytes = Vec::new(heap);
-    append_header(rt, &mut bytes, schedule)?;
+    let header = schedule.header;
+    append(rt, &mut bytes, |out| write_header(out, header))?;
     for step in schedule.steps.iter() {
-        append_step(
+        append(
             rt,
             &mut bytes,
-            schedule.header.kind,
-            schedule.header.wiring,
-            *step,
+            |out| write_step(out, header.format(), *step),
         )?;
     }
     Ok(bytes)
@@ -93,8 +83,8 @@ fn schedules_read_and_write_back(rt: HostRuntime) -> Result<(), Fail> {
 fn the_sample_begins_with_a_write(rt: HostRuntime) -> Result<(), Fail> {
     let schedule = read(rt.alloc(), SAMPLE)?;
     assert_eq!(rt; schedule.header.servers, 2);
-    assert_eq!(rt; schedule.header.kind.number(), 1);
-    assert_eq!(rt; schedule.header.wiring.number(), 1);
+    assert_eq!(rt; u32::from(schedule.header.kind), 1);
+    assert_eq!(rt; u32::from(schedule.header.wiring), 1);
     assert_eq!(rt; schedule.header.first, b"\x00\x00\x00\x00".as_slice());
     match schedule.steps.first() {
         Some(

@@ -34,3 +34,14 @@ pub laid_behind : (k behind : ℕ) (bs cs out after last : List ℕ)
     → after ≡ lay_at k bs out → behind ≡ k + length bs → last ≡ lay_at behind cs after → last ≡ lay_at k (bs ++ cs) out
 laid_behind k behind bs cs out after last e b l =
     l ∙ (ap (λ n. lay_at n cs after) b ∙ (ap (λ (xs : List ℕ). lay_at (k + length bs) cs xs) e ∙ lay_behind k bs cs out))
+
+-- A byte, and what is laid behind it part by part, are laid as one.
+pub laid_in_turn : (b second_at value_at : ℕ) (first second value out after_first after_second last : List ℕ)
+    → after_first ≡ lay_at 1 first (set out 0 b) → second_at ≡ 1 + length first
+    → after_second ≡ lay_at second_at second after_first → value_at ≡ second_at + length second
+    → last ≡ lay_at value_at value after_second
+    → last ≡ lay_at 0 (b ∷ (first ++ (second ++ value))) out
+laid_in_turn b second_at value_at first second value out after_first after_second last e₁ p₁ e₂ p₂ e₃ =
+    laid_behind 1 second_at first (second ++ value) (set out 0 b) after_first last e₁ p₁
+    (laid_behind second_at value_at second value after_first after_second last e₂ p₂ e₃)
+    ∙ laid_behind_a_byte b (first ++ (second ++ value)) out

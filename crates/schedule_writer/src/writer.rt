@@ -12,61 +12,34 @@ ghost use Rattle.std.specs.Option.{option_map};
 use crate::parts::{Parts, value_size};
 use numbers::faults::WriteRefusal;
 use numbers::writing::{number_len, write_number};
-use schedule::headers::{Header, LEAST_SERVERS, MOST_SERVERS, WiringKind};
+use schedule::headers::{Format, Header, LEAST_SERVERS, MOST_SERVERS};
 use schedule::steps::Step;
-use values::kind::Kind;
 
 // Writes a header to the front of a buffer and answers its length. Bytes behind it stay, and a refusal leaves all as it was.
 pub fn write_header(out: &mut [u8], header: Header) -> Result<usize, WriteRefusal>
     ensures answer { result ≡ write_answer (header_writable (plain_header header.entry)) (length (header_bytes (plain_header header.entry))) (length out.old) }
     ensures after { out.new ≡ laid_or_kept result 0 (header_bytes (plain_header header.entry)) out.old }
 {
-    match fitted(header_size(header), out.len()) {
-        Ok(size) => {
-            put_header(out, header);
-            Ok(size)
-        }
-        Err(refusal) => Err(refusal),
-    }
+    let size = fitted(header_size(header)?, out.len())?;
+    put_header(out, header);
+    Ok(size)
 }
 
-// Writes a step under a kind and a wiring to the front of a buffer and answers its length. Bytes behind it stay, and a refusal leaves all as it was.
-pub fn write_step(
-    out: &mut [u8],
-    kind: Kind,
-    wiring: WiringKind,
-    step: Step,
-) -> Result<usize, WriteRefusal>
-    ensures answer { result ≡ write_answer (step_writable kind wiring (plain_step step.entry)) (length (step_bytes (plain_step step.entry))) (length out.old) }
+// Writes a step of a format to the front of a buffer and answers its length. Bytes behind it stay, and a refusal leaves all as it was.
+pub fn write_step(out: &mut [u8], format: Format, step: Step) -> Result<usize, WriteRefusal>
+    ensures answer { result ≡ write_answer (step_writable format.kind format.wiring (plain_step step.entry)) (length (step_bytes (plain_step step.entry))) (length out.old) }
     ensures after { out.new ≡ laid_or_kept result 0 (step_bytes (plain_step step.entry)) out.old }
 {
-    write_parts(out, kind, wiring, Parts::of(step))
+    let parts = Parts::from(step);
+    let size = fitted(parts.size(format)?, out.len())?;
+    put_parts(out, parts);
+    Ok(size)
 }
 
-// Writes the parts of a step under a kind and a wiring to the front of a buffer.
-fn write_parts(
-    out: &mut [u8],
-    kind: Kind,
-    wiring: WiringKind,
-    parts: Parts,
-) -> Result<usize, WriteRefusal>
-    ensures answer { result ≡ write_answer (parts_writable kind wiring (plain_parts parts.entry)) (length (parts_bytes (plain_parts parts.entry))) (length out.old) }
-    ensures after { out.new ≡ laid_or_kept result 0 (parts_bytes (plain_parts parts.entry)) out.old }
+// The size, if there is room for it.
+fn fitted(size: usize, room: usize) -> Result<usize, WriteRefusal>
+    ensures { result ≡ fitted_answer (Ok size) room }
 {
-    match fitted(parts.size(kind, wiring), out.len()) {
-        Ok(size) => {
-            put_parts(out, parts);
-            Ok(size)
-        }
-        Err(refusal) => Err(refusal),
-    }
-}
-
-// The size of what may be written, if there is room for it.
-fn fitted(size: Result<usize, WriteRefusal>, room: usize) -> Result<usize, WriteRefusal>
-    ensures { result ≡ fitted_answer size room }
-{
-    let size = size?;
     if size <= room {
         Ok(size)
     } else {
@@ -78,13 +51,13 @@ fn fitted(size: Result<usize, WriteRefusal>, room: usize) -> Result<usize, Write
 fn header_size(header: Header) -> Result<usize, WriteRefusal>
     ensures { result ≡ sized (header_writable (plain_header header.entry)) (length (header_bytes (plain_header header.entry))) }
 {
-    if header.servers < LEAST_SERVERS || MOST_SERVERS < header.servers {
+    if !(LEAST_SERVERS..=MOST_SERVERS).contains(&header.servers) {
         return Err(WriteRefusal::NotWritable);
     }
     let first = value_size(header.kind, header.first)?;
     let numbers = number_len(header.servers)
-        + number_len(header.kind.number())
-        + number_len(header.wiring.number());
+        + number_len(u32::from(header.kind))
+        + number_len(u32::from(header.wiring));
     Ok(numbers + first)
 }
 
@@ -94,8 +67,8 @@ fn put_header(out: &mut [u8], header: Header)
     ensures { out.new ≡ lay_at 0 (header_bytes (plain_header header.entry)) out.old }
 {
     let kind_at = put_number(out, 0, header.servers);
-    let wiring_at = put_number(out, kind_at, header.kind.number());
-    let first_at = put_number(out, wiring_at, header.wiring.number());
+    let wiring_at = put_number(out, kind_at, u32::from(header.kind));
+    let first_at = put_number(out, wiring_at, u32::from(header.wiring));
     put_value(out, first_at, header.first);
 }
 
@@ -104,50 +77,30 @@ fn put_parts(out: &mut [u8], parts: Parts)
     requires { (number_fits parts.first ≡ true) × ((second_fits parts.second ≡ true) × (length (parts_bytes (plain_parts parts)) ≤ length out.old)) }
     ensures { out.new ≡ lay_at 0 (parts_bytes (plain_parts parts.entry)) out.old }
 {
-    out[0] = parts.code.number();
-    let second_at = put_number(out, 1, parts.first);
-    let value_at = put_second(out, second_at, parts.second);
-    put_optional_value(out, value_at, parts.value);
+    out[0] = u8::from(parts.code);
+    let mut at = put_number(out, 1, parts.first);
+    if let Some(second) = parts.second {
+        at = put_number(out, at, second);
+    }
+    if let Some(value) = parts.value {
+        put_value(out, at, value);
+    }
 }
 
-// Writes a number at a place where there is room, and answers the place behind it.
+// Writes a number at a place where there is room, and answers the place behind it. A struct of buffer and place would be taken apart again for `write_number`.
 fn put_number(out: &mut [u8], at: usize, number: u32) -> usize
     requires { (number_fits number ≡ true) × (at + length (number_bytes number) ≤ length out.old) }
     ensures behind { result ≡ at + length (number_bytes number) }
     ensures after { out.new ≡ lay_at at (number_bytes number) out.old }
 {
-    match write_number(out, at, number) {
-        Ok(size) => at + size,
-        Err(_) => at,
-    }
-}
-
-// Writes a second number, if there is one, at a place where there is room, and answers the place behind it.
-fn put_second(out: &mut [u8], at: usize, second: Option<u32>) -> usize
-    requires { (second_fits second ≡ true) × (at + length (second_bytes second) ≤ length out.old) }
-    ensures behind { result ≡ at + length (second_bytes second) }
-    ensures after { out.new ≡ lay_at at (second_bytes second) out.old }
-{
-    match second {
-        Some(number) => put_number(out, at, number),
-        None => at,
-    }
+    at + write_number(out, at, number).unwrap()
 }
 
 // Writes the bytes of a value at a place where there is room.
+#[tactic(auto, using(crate::proofs::Laid::a_copy_lays))]
 fn put_value(out: &mut [u8], at: usize, value: &[u8])
     requires { at + length value.now ≤ length out.old }
     ensures { out.new ≡ lay_at at value.now out.old }
 {
     out[at..at + value.len()].copy_from_slice(value);
-}
-
-// Writes the bytes of a value, if there is one, at a place where there is room.
-fn put_optional_value(out: &mut [u8], at: usize, value: Option<&[u8]>)
-    requires { at + length (value_bytes (option_map (λ x. x.now) value)) ≤ length out.old }
-    ensures { out.new ≡ lay_at at (value_bytes (option_map (λ x. x.now) value.entry)) out.old }
-{
-    if let Some(bytes) = value {
-        put_value(out, at, bytes);
-    }
 }

@@ -1,7 +1,9 @@
 -- The kinds of value: their numbers and lengths, and what is wrong with bytes that are to be a value.
-use Rattle.std.specs.Prelude.{ℕ, ◌<◌, Bool, true, cond, ◌&&◌, ◌||◌, List, [], ◌∷◌, length, take, drop, Some, None, Ok, Err, Option, Result, ◌==◌, nat_le, nat_lt, slice_index}
+use Rattle.std.specs.Prelude.{ℕ, ◌<◌, Bool, true, cond, ◌&&◌, ◌||◌, List, length, take, drop, Some, None, Ok, Err, Option, Result, ◌==◌, nat_le, nat_lt, slice_index}
+use Rattle.std.specs.List.{list_all}
 use Rattle.values.specs.declared.kind.Kind.{Kind}
 use Rattle.values.specs.declared.kind.Kind.TheVariants.{Level, Mark}
+use Rattle.values.specs.declared.kind.UnknownKind.{UnknownKind}
 use Rattle.values.specs.declared.fault.ValueFault.{ValueFault}
 use Rattle.values.specs.declared.fault.ValueFault.TheVariants.{Cut, NotAllowed}
 
@@ -13,6 +15,10 @@ kind_number Mark = 2
 -- The kind that has a number, if one has.
 abbrev pub kind_of : ℕ → Option Kind
 kind_of n = cond (n == kind_number Level) (Some Level) (cond (n == kind_number Mark) (Some Mark) None)
+
+-- What reading a kind from its number answers: the kind, or that no kind has the number.
+abbrev pub kind_read : ℕ → Result Kind UnknownKind
+kind_read n = elim (kind_of n) [ None ↦ Err (record { 0 = n }) | Some k ↦ Ok k ]
 
 -- A level takes four bytes, a mark eight.
 abbrev pub value_length : Kind → ℕ
@@ -30,8 +36,7 @@ allowed b = (nat_le 65 b && nat_le b 90) || (nat_le 48 b && nat_le b 57)
 
 -- Every byte of the text is one of these.
 unfoldable pub all_allowed : List ℕ → Bool
-all_allowed [] = true
-all_allowed (b ∷ bs) = allowed b && all_allowed bs
+all_allowed bs = list_all allowed bs
 
 -- The name of a mark stands in the six bytes behind the first two.
 abbrev pub name_part : List ℕ → List ℕ

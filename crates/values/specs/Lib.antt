@@ -2,4 +2,5 @@ pub mod Kinds
 pub mod Levels
 pub mod Marks
 pub mod Written
+pub mod Texts
 pub mod Names

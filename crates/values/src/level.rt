@@ -19,6 +19,10 @@ impl Value for Level {
 
     const NUMBER: u32 = 1;
 
+    ghost LEN = { 4 };
+
+    ghost NUMBER = { 1 };
+
     ghost kind = { LevelKind };
 
     ghost fits = { level_fits };
@@ -26,6 +30,10 @@ impl Value for Level {
     ghost bytes = { level_bytes };
 
     ghost value = { level_value };
+
+    ghost long = { Prim.search rules };
+
+    ghost numbered = { Prim.search rules };
 
     ghost sized = { Prim.search rules };
 
@@ -37,27 +45,15 @@ impl Value for Level {
 
     ghost writes_back = { Prim.search rules };
 
-    fn byte_len() -> usize {
-        Self::LEN
-    }
-
-    fn kind_number() -> u32 {
-        Self::NUMBER
-    }
-
     fn read(src: &[u8]) -> Result<Level, ValueFault> {
-        if src.len() < Self::LEN {
-            return Err(ValueFault::Cut);
-        }
-        let height = u32::from_le_bytes([src[0], src[1], src[2], src[3]]);
+        let bytes = src.first_chunk().ok_or(ValueFault::Cut)?;
+        let height = u32::from_le_bytes(*bytes);
         Ok(Level { height })
     }
 
     fn write(self, out: &mut [u8]) -> Result<(), Unwritten> {
-        if out.len() < Self::LEN {
-            return Err(Unwritten::Short);
-        }
-        out[0..Self::LEN].copy_from_slice(&self.height.to_le_bytes());
+        let front = out.first_chunk_mut().ok_or(Unwritten::Short)?;
+        *front = self.height.to_le_bytes();
         Ok(())
     }
 }

@@ -10,8 +10,6 @@ use crate::fault::{Unwritten, ValueFault};
 use crate::value::Value;
 use std::{fmt, str};
 
-// How many bytes a trace number takes.
-const TRACE_LEN: usize = 2;
 // How many bytes a name takes.
 const NAME_LEN: usize = 6;
 
@@ -30,21 +28,21 @@ fn is_allowed(byte: u8) -> bool
 }
 
 // Whether each byte is a capital letter or a digit.
+#[tactic(auto, unfolding(crate::specs::Kinds::all_allowed))]
 fn are_allowed(text: &[u8]) -> bool
     ensures { result ≡ all_allowed text.now }
 {
-    for byte in text {
-        if !is_allowed(*byte) {
-            return false;
-        }
-    }
-    true
+    text.iter().all(|byte| is_allowed(*byte))
 }
 
 impl Value for Mark {
     const LEN: usize = 8;
 
     const NUMBER: u32 = 2;
+
+    ghost LEN = { 8 };
+
+    ghost NUMBER = { 2 };
 
     ghost kind = { MarkKind };
 
@@ -53,6 +51,10 @@ impl Value for Mark {
     ghost bytes = { mark_bytes };
 
     ghost value = { mark_value };
+
+    ghost long = { Prim.search rules };
+
+    ghost numbered = { Prim.search rules };
 
     ghost sized = { Prim.search rules };
 
@@ -64,36 +66,24 @@ impl Value for Mark {
 
     ghost writes_back = { Prim.search rules };
 
-    fn byte_len() -> usize {
-        Self::LEN
-    }
-
-    fn kind_number() -> u32 {
-        Self::NUMBER
-    }
-
     fn read(src: &[u8]) -> Result<Mark, ValueFault> {
-        if src.len() < Self::LEN {
-            return Err(ValueFault::Cut);
-        }
-        let mut name = [0; NAME_LEN];
-        name.copy_from_slice(&src[TRACE_LEN..Self::LEN]);
-        if !are_allowed(&name) {
+        let (trace, rest) = src.split_first_chunk().ok_or(ValueFault::Cut)?;
+        let name = rest.first_chunk().ok_or(ValueFault::Cut)?;
+        if !are_allowed(name) {
             return Err(ValueFault::NotAllowed);
         }
-        let trace = u16::from_le_bytes([src[0], src[1]]);
-        Ok(Mark { trace, name })
+        let trace = u16::from_le_bytes(*trace);
+        Ok(Mark { trace, name: *name })
     }
 
     fn write(self, out: &mut [u8]) -> Result<(), Unwritten> {
         if !are_allowed(&self.name) {
             return Err(Unwritten::NotAllowed);
         }
-        if out.len() < Self::LEN {
-            return Err(Unwritten::Short);
-        }
-        out[0..TRACE_LEN].copy_from_slice(&self.trace.to_le_bytes());
-        out[TRACE_LEN..Self::LEN].copy_from_slice(&self.name);
+        let (trace, rest) = out.split_first_chunk_mut().ok_or(Unwritten::Short)?;
+        let name = rest.first_chunk_mut().ok_or(Unwritten::Short)?;
+        *trace = self.trace.to_le_bytes();
+        *name = self.name;
         Ok(())
     }
 }
@@ -103,9 +93,7 @@ impl fmt::Display for Mark {
     ghost output = { λ v. Some (mark_text v) };
 
     fn fmt<W: fmt::Write>(&self, f: &mut fmt::Formatter<W>) -> fmt::Result {
-        let Ok(name) = str::from_utf8(&self.name) else {
-            return Err(fmt::Error);
-        };
+        let name = str::from_utf8(&self.name).map_err(|_| fmt::Error)?;
         write!(f, "{}-{name}", self.trace)
     }
 }

@@ -10,8 +10,14 @@ use crate::fault::{Unwritten, ValueFault};
 pub trait Value: Copy {
     // How many bytes a value takes.
     const LEN: usize;
+
     // The kind's number in a schedule's header.
     const NUMBER: u32;
+
+    // Clauses name the two constants by these.
+    ghost LEN: { ℕ };
+
+    ghost NUMBER: { ℕ };
 
     // Which kind it is.
     ghost kind: { KindOf };
@@ -25,14 +31,6 @@ pub trait Value: Copy {
     // The value at the front of bytes with which nothing is wrong.
     ghost value: { List ℕ → Self };
 
-    // LEN, with the promise that code over every kind needs: a constant has no contract.
-    fn byte_len() -> usize
-        ensures { result ≡ value_length kind };
-
-    // NUMBER, with the promise that code over every kind needs.
-    fn kind_number() -> u32
-        ensures { result ≡ kind_number kind };
-
     // The value at the front of these bytes, or what is wrong with them.
     fn read(src: &[u8]) -> Result<Self, ValueFault>
         ensures { result ≡ read_as (value_fault kind src.now) (value src.now) };
@@ -41,6 +39,12 @@ pub trait Value: Copy {
     fn write(self, out: &mut [u8]) -> Result<(), Unwritten>
         ensures answer { result ≡ write_answer (fits self) (value_length kind) (length out.old) }
         ensures after { out.new ≡ kept_unless result (over (bytes self) out.old) out.old };
+
+    // A value takes as many bytes as its kind says.
+    ghost long: { LEN ≡ value_length kind };
+
+    // The number is the kind's.
+    ghost numbered: { NUMBER ≡ kind_number kind };
 
     // A value has as many bytes as its kind says.
     ghost sized: { (x : Self) → fits x ≡ true → length (bytes x) ≡ value_length kind };

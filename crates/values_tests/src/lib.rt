@@ -5,7 +5,7 @@
 mod tests {
     use std::test::Fail;
     use values::fault::{Unwritten, ValueFault};
-    use values::kind::Kind;
+    use values::kind::{Kind, UnknownKind};
     use values::level::Level;
     use values::mark::Mark;
     use values::value::Value;
@@ -16,6 +16,19 @@ mod tests {
         assert_eq!(rt; level.to_string(rt.alloc())?.as_str(), "7");
         let mark = Mark::read(b"\x02\x01PSU04A")?;
         assert_eq!(rt; mark.to_string(rt.alloc())?.as_str(), "258-PSU04A");
+        Ok(())
+    }
+
+    #[test]
+    fn errors_print(rt: HostRuntime) -> Result<(), Fail> {
+        let texts = [
+            ValueFault::Cut.to_string(rt.alloc())?,
+            Unwritten::Short.to_string(rt.alloc())?,
+            UnknownKind(3).to_string(rt.alloc())?,
+        ];
+        assert_eq!(rt; texts[0].as_str(), "the value is cut short");
+        assert_eq!(rt; texts[1].as_str(), "there is no room for the value");
+        assert_eq!(rt; texts[2].as_str(), "no kind of value has the number 3");
         Ok(())
     }
 
@@ -56,9 +69,11 @@ mod tests {
 
     #[test]
     fn kinds_have_numbers(rt: HostRuntime) {
-        assert_eq!(rt; Kind::from_number(Level::NUMBER), Some(Kind::Level));
-        assert_eq!(rt; Kind::from_number(Mark::NUMBER), Some(Kind::Mark));
-        assert_eq!(rt; Kind::from_number(0), None);
-        assert_eq!(rt; Kind::from_number(3), None);
+        assert_eq!(rt; Kind::try_from(Level::NUMBER), Ok(Kind::Level));
+        assert_eq!(rt; Kind::try_from(Mark::NUMBER), Ok(Kind::Mark));
+        assert_eq!(rt; Kind::try_from(0u32), Err(UnknownKind(0)));
+        assert_eq!(rt; Kind::try_from(3u32), Err(UnknownKind(3)));
+        assert_eq!(rt; u32::from(Kind::Level), 1);
+        assert_eq!(rt; u32::from(Kind::Mark), 2);
     }
 }
