@@ -1,5 +1,6 @@
 // What a server finds as it looks round the ring past the crashes that it has noticed: its next, whom it stands in for, and whom a mask covers.
 // The definitions are those of the crate circle, for numbers of any size.
+// Size, set and server are passed apart: a caller asks one or two things of them, so a struct of the three would only be packed to be taken apart again.
 #![tactic(auto)]
 
 ghost use Rattle.std.specs.Prelude.{◌≡◌, ◌^◌, ◌<◌};
@@ -40,35 +41,24 @@ pub fn next_of(size: usize, noticed: ServerSet, server: usize) -> usize
     ensures is { result ≡ next size (has noticed.bits) server }
     ensures within { server < size → result < size }
 {
-    for steps in 1..size {
-        let other = after(size, server, steps);
-        if !noticed.contains(other) {
-            return other;
-        }
-    }
-    server
+    (1..size)
+        .map(|steps| after(size, server, steps))
+        .find(|other| !noticed.contains(*other))
+        .unwrap_or(server)
 }
 
 // Whether the server is the origin, or has noticed the crash of the origin and of every server between the two.
 pub fn stands_in(size: usize, noticed: ServerSet, server: usize, origin: usize) -> bool
     ensures { result ≡ stands_in size (has noticed.bits) server origin }
 {
-    let mut all = true;
-    for steps in 0..distance(size, origin, server) {
-        all = noticed.contains(after(size, origin, steps)) && all;
-    }
-    all
+    (0..distance(size, origin, server)).all(|steps| noticed.contains(after(size, origin, steps)))
 }
 
 // Whether every server whose crash this one has not noticed is itself or in the mask.
 pub fn covers(size: usize, noticed: ServerSet, server: usize, mask: ServerSet) -> bool
     ensures { result ≡ covers size (has noticed.bits) server mask.bits }
 {
-    let mut all = true;
-    for other in 0..size {
-        all = (noticed.contains(other) || other == server || mask.contains(other)) && all;
-    }
-    all
+    (0..size).all(|other| noticed.contains(other) || other == server || mask.contains(other))
 }
 
 #[cfg(test)]

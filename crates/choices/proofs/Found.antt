@@ -4,18 +4,11 @@ use Rattle.std.proofs.Common.{◌≡◌, ℕ, zero, suc, ◌<◌, ◌≤◌, Boo
 use Rattle.std.proofs.lemmas.Bool.{cases_Bool, cases_lt, true≢false}
 use Rattle.std.proofs.lemmas.Bool.Decides.{nat_tests}
 use Rattle.counting.specs.Below.{better, least}
-use Rattle.counting.proofs.Searches.{least_passes}
+use Rattle.counting.proofs.Searches.{least_passes, none_is_found}
 use Rattle.search.specs.Order.{LeastOf}
 use Rattle.choices.specs.declared.keys.Candidate.{Candidate}
 use Rattle.choices.specs.declared.keys.Candidate.TheVariants.{Absent, Waits}
-use Rattle.choices.specs.Keys.{candidate_below}
-
--- where none passes, there is no least
-pub none_passes_none_is_least : (f : ℕ → Bool) (g : ℕ → ℕ) (n : ℕ) → ((k : ℕ) → k < n → f k ≡ false) → least f g n ≡ None
-unfolding least
-none_passes_none_is_least f g zero none = refl
-none_passes_none_is_least f g (suc n) none =
-    ap (better f g n) (none_passes_none_is_least f g n (λ k l. none k (omega arith))) ∙ ap (λ b. cond b (Some n) None) (none n (omega arith))
+use Rattle.choices.specs.Keys.{candidate_below, LeastWaiting, waits}
 
 -- the one that passes with the smallest key, smaller than the keys of those before it, is the least
 pub the_smallest_is_least : (f : ℕ → Bool) (g : ℕ → ℕ) (n i : ℕ) → i < n → f i ≡ true
@@ -48,15 +41,15 @@ the_smallest_is_least f g (suc n) i low passes no_larger smaller = ⊎_elim
 -- the keys of candidates say which pass the test f, and rank them by g
 pub record Ranked {K : Type 0} (below : K → K → Bool) (keys : List (Candidate K)) (f : ℕ → Bool) (g : ℕ → ℕ) : Type 0 where
   pub absent : (k : ℕ) → k < length keys → get_or keys k Absent ≡ Absent → f k ≡ false
-  pub waits : (k : ℕ) (a : K) → k < length keys → get_or keys k Absent ≡ Waits a → f k ≡ true
+  pub waiting : (k : ℕ) (a : K) → k < length keys → get_or keys k Absent ≡ Waits a → f k ≡ true
   pub no_larger : (j k : ℕ) (a b : K) → j < length keys → k < length keys → get_or keys j Absent ≡ Waits a → get_or keys k Absent ≡ Waits b → below b a ≡ false → g j ≤ g k
   pub smaller : (j k : ℕ) (a b : K) → k < j → j < length keys → get_or keys j Absent ≡ Waits a → get_or keys k Absent ≡ Waits b → below a b ≡ true → g j < g k
 
-module _ {K : Type 0} (below : K → K → Bool) (keys : List (Candidate K)) (f : ℕ → Bool) (g : ℕ → ℕ) (ranked : Ranked below keys f g) (i : ℕ) (found : LeastOf (candidate_below below) keys (length keys) i) where
+module _ {K : Type 0} (below : K → K → Bool) (keys : List (Candidate K)) (f : ℕ → Bool) (g : ℕ → ℕ) (ranked : Ranked below keys f g) where
   -- the candidate found waits: it is what the rules name
-  pub the_key_found_is_least : (a : K) → get_or keys i Absent ≡ Waits a → least f g (length keys) ≡ Some i
-  the_key_found_is_least a is = the_smallest_is_least f g (length keys) i found.within (ranked.waits i a found.within is)
-      (λ k l e. no_larger k l e (get_or keys k Absent) refl) (λ k l e. smaller k l e (get_or keys k Absent) refl)
+  the_key_found_is_least : (i : ℕ) → LeastOf (candidate_below below) keys (length keys) i → (a : K) → get_or keys i Absent ≡ Waits a → Some i ≡ least f g (length keys)
+  the_key_found_is_least i found a is = sym (the_smallest_is_least f g (length keys) i found.within (ranked.waiting i a found.within is)
+      (λ k l e. no_larger k l e (get_or keys k Absent) refl) (λ k l e. smaller k l e (get_or keys k Absent) refl))
     where
       no_larger : (k : ℕ) → k < length keys → f k ≡ true → (c : Candidate K) → get_or keys k Absent ≡ c → g i ≤ g k
       no_larger k l e Absent at = absurd (true≢false (sym e ∙ ranked.absent k l at))
@@ -68,11 +61,15 @@ module _ {K : Type 0} (below : K → K → Bool) (keys : List (Candidate K)) (f 
       smaller k l e (Waits b) at = ranked.smaller i k a b l found.within is at
           (subst (λ c. candidate_below below (Waits a) c ≡ true) at (subst (λ c. candidate_below below c (get_or keys k Absent) ≡ true) is (found.above_before Absent k l)))
 
-  -- the candidate found does not wait: none does
-  pub where_the_least_is_absent_none_waits : get_or keys i Absent ≡ Absent → least f g (length keys) ≡ None
-  where_the_least_is_absent_none_waits is = none_passes_none_is_least f g (length keys) (λ k l. none k l (get_or keys k Absent) refl)
+  -- the least of what waits is what the rules name, and none is where none waits
+  pub the_least_waiting_is_least : (o : Option ℕ) → LeastWaiting below keys o → o ≡ least f g (length keys)
+  the_least_waiting_is_least None none = sym (none_is_found f g (length keys) (λ k l. fails k l (get_or keys k Absent) refl))
     where
-      none : (k : ℕ) → k < length keys → (c : Candidate K) → get_or keys k Absent ≡ c → f k ≡ false
-      none k l Absent at = ranked.absent k l at
-      none k l (Waits b) at = absurd (true≢false
-          (subst (λ c. candidate_below below c Absent ≡ false) at (subst (λ c. candidate_below below (get_or keys k Absent) c ≡ false) is (found.none_below Absent k l))))
+      fails : (k : ℕ) → k < length keys → (c : Candidate K) → get_or keys k Absent ≡ c → f k ≡ false
+      fails k l Absent at = ranked.absent k l at
+      fails k l (Waits b) at = absurd (true≢false (sym (ap waits at) ∙ none k l))
+  the_least_waiting_is_least (Some i) (found, it_waits) = one (get_or keys i Absent) refl
+    where
+      one : (c : Candidate K) → get_or keys i Absent ≡ c → Some i ≡ least f g (length keys)
+      one Absent at = absurd (true≢false (sym it_waits ∙ ap waits at))
+      one (Waits a) at = the_key_found_is_least i found a at

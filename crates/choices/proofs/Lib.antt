@@ -1,3 +1,5 @@
-pub mod Found
-pub mod GroupSets
-pub mod Ranks
+mod Filled
+mod Found
+mod GroupSets
+mod Ordered
+mod Ranks

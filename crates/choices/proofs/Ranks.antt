@@ -1,18 +1,17 @@
 -- The keys of groups and of entries rank them as the rules do, so that the search finds what the rules name.
-use Rattle.std.proofs.Common.{◌≡◌, ℕ, ◌<◌, Bool, List, length, get_or, Some, None, sym, subst, arith}
+use Rattle.std.proofs.Common.{◌≡◌, ℕ, ◌<◌, Bool, List, length, get_or, Option, subst, arith}
 use Rattle.std.proofs.lemmas.Bool.Decides.{nat_tests}
 use Rattle.counting.specs.Below.{least}
 use Rattle.servers.specs.Sets.{has}
 use Rattle.model.specs.State.{Servers}
 use Rattle.model.specs.ServerChanges.{counts_if}
-use Rattle.search.specs.Order.{LeastOf}
 use Rattle.choices.specs.declared.keys.GroupKey.{GroupKey}
 use Rattle.operation.specs.declared.tag.Tag.{Tag}
 use Rattle.operation.specs.Tags.{tag_below}
 use Rattle.choices.specs.declared.keys.Candidate.{Candidate}
 use Rattle.choices.specs.declared.keys.Candidate.TheVariants.{Absent, Waits}
-use Rattle.choices.specs.Keys.{candidate_below, group_below, IsGroup, IsEntry}
-use Rattle.choices.proofs.Found.{Ranked, the_key_found_is_least, where_the_least_is_absent_none_waits}
+use Rattle.choices.specs.Keys.{group_below, IsGroup, IsEntry, LeastWaiting}
+use Rattle.choices.proofs.Found.{Ranked, the_least_waiting_is_least}
 
 -- groups rank by count, then by number
 groups_are_ranked : (keys : List (Candidate GroupKey)) (f : ℕ → Bool) (g : ℕ → ℕ) → ((j : ℕ) → j < length keys → IsGroup (f j) (g j) j (get_or keys j Absent)) → Ranked group_below keys f g
@@ -20,7 +19,7 @@ groups_are_ranked keys f g is =
     let at : (j : ℕ) (c : Candidate GroupKey) → j < length keys → get_or keys j Absent ≡ c → IsGroup (f j) (g j) j c = (λ j c l e. subst (λ c. IsGroup (f j) (g j) j c) e (is j l)) in
     record {
       absent = λ k l e. at k Absent l e;
-      waits = λ k a l e. (at k (Waits a) l e).0;
+      waiting = λ k a l e. (at k (Waits a) l e).0;
       no_larger = λ j k a b lj lk ej ek t. let x = at j (Waits a) lj ej in let y = at k (Waits b) lk ek in let x1 = x.1 in let y1 = y.1 in grind (arith, nat_tests);
       smaller = λ j k a b l lj ej ek t. let x = at j (Waits a) lj ej in let y = at k (Waits b) (omega arith) ek in let x1 = x.1 in let x2 = x.2 in let y1 = y.1 in let y2 = y.2 in grind (arith, nat_tests);
     }
@@ -31,7 +30,7 @@ entries_are_ranked keys f g is =
     let at : (k : ℕ) (c : Candidate Tag) → k < length keys → get_or keys k Absent ≡ c → IsEntry (f k) (g k) c = (λ k c l e. subst (λ c. IsEntry (f k) (g k) c) e (is k l)) in
     record {
       absent = λ k l e. at k Absent l e;
-      waits = λ k a l e. (at k (Waits a) l e).0;
+      waiting = λ k a l e. (at k (Waits a) l e).0;
       no_larger = λ j k a b lj lk ej ek t. let x = at j (Waits a) lj ej in let y = at k (Waits b) lk ek in let x1 = x.1 in let x2 = x.2 in let y1 = y.1 in let y2 = y.2 in grind (arith, nat_tests);
       smaller = λ j k a b l lj ej ek t. let x = at j (Waits a) lj ej in let y = at k (Waits b) (omega arith) ek in let x1 = x.1 in let x2 = x.2 in let y1 = y.1 in let y2 = y.2 in grind (arith, nat_tests);
     }
@@ -44,20 +43,14 @@ keys_of_what_waits keys v p set some some_entry f is waits e j l =
     subst (λ w. IsGroup w (counts_if some_entry v p j) j (get_or keys j Absent)) (waits j l)
     (subst (λ b. IsGroup (has set j) (counts_if b v p j) j (get_or keys j Absent)) e (is j l))
 
-module _ (keys : List (Candidate GroupKey)) (f : ℕ → Bool) (g : ℕ → ℕ) (sized : length keys ≡ 8) (is : (k : ℕ) → k < 8 → IsGroup (f k) (g k) k (get_or keys k Absent)) (i : ℕ) (found : LeastOf (candidate_below group_below) keys (length keys) i) where
-  -- the group found is the one that the rules choose
-  pub the_group_found_is_least : (a : GroupKey) → get_or keys i Absent ≡ Waits a → Some i ≡ least f g 8
-  the_group_found_is_least a at = sym (subst (λ n. least f g n ≡ Some i) sized (the_key_found_is_least group_below keys f g (groups_are_ranked keys f g (λ k l. is k (omega arith))) i found a at))
+-- the group found is the one that the rules choose
+pub the_group_found_is_least : (keys : List (Candidate GroupKey)) (f : ℕ → Bool) (g : ℕ → ℕ) → length keys ≡ 8 → ((k : ℕ) → k < 8 → IsGroup (f k) (g k) k (get_or keys k Absent))
+    → (o : Option ℕ) → LeastWaiting group_below keys o → o ≡ least f g 8
+the_group_found_is_least keys f g sized is o found =
+    subst (λ n. o ≡ least f g n) sized (the_least_waiting_is_least group_below keys f g (groups_are_ranked keys f g (λ k l. is k (omega (arith, sized)))) o found)
 
-  -- where the search finds none, no group waits
-  pub where_none_is_found_no_group_waits : get_or keys i Absent ≡ Absent → None ≡ least f g 8
-  where_none_is_found_no_group_waits at = sym (subst (λ n. least f g n ≡ None) sized (where_the_least_is_absent_none_waits group_below keys f g (groups_are_ranked keys f g (λ k l. is k (omega arith))) i found at))
-
-module _ (keys : List (Candidate Tag)) (f : ℕ → Bool) (g : ℕ → ℕ) (sized : length keys ≡ 256) (is : (k : ℕ) → k < 256 → IsEntry (f k) (g k) (get_or keys k Absent)) (i : ℕ) (found : LeastOf (candidate_below tag_below) keys (length keys) i) where
-  -- the entry found is the first one by the rules
-  pub the_entry_found_is_least : (a : Tag) → get_or keys i Absent ≡ Waits a → Some i ≡ least f g 256
-  the_entry_found_is_least a at = sym (subst (λ n. least f g n ≡ Some i) sized (the_key_found_is_least tag_below keys f g (entries_are_ranked keys f g (λ k l. is k (omega arith))) i found a at))
-
-  -- where the search finds none, the group has no entry
-  pub where_none_is_found_no_entry_waits : get_or keys i Absent ≡ Absent → None ≡ least f g 256
-  where_none_is_found_no_entry_waits at = sym (subst (λ n. least f g n ≡ None) sized (where_the_least_is_absent_none_waits tag_below keys f g (entries_are_ranked keys f g (λ k l. is k (omega arith))) i found at))
+-- the entry found is the first one by the rules
+pub the_entry_found_is_least : (keys : List (Candidate Tag)) (f : ℕ → Bool) (g : ℕ → ℕ) → length keys ≡ 256 → ((k : ℕ) → k < 256 → IsEntry (f k) (g k) (get_or keys k Absent))
+    → (o : Option ℕ) → LeastWaiting tag_below keys o → o ≡ least f g 256
+the_entry_found_is_least keys f g sized is o found =
+    subst (λ n. o ≡ least f g n) sized (the_least_waiting_is_least tag_below keys f g (entries_are_ranked keys f g (λ k l. is k (omega (arith, sized)))) o found)

@@ -8,12 +8,12 @@ ghost use Rattle.journal.specs.View.{view};
 ghost use Rattle.model.specs.Turns.{has_entry_of};
 ghost use Rattle.counting.specs.Below.{least};
 
-use crate::keys::Candidate;
+use crate::keys::{Candidate, least_waiting};
 use fleet::Fleet;
 use journal::Journal;
 use messages::{ROWS, Row};
 use operation::Tag;
-use search::least;
+use std::array;
 
 // The key of the row's entry to forward at the server, if there is one and its tag names the group.
 fn entry_key(
@@ -43,11 +43,7 @@ fn entry_keys(
     ensures sized { length result ≡ 256 }
     ensures keys { (k : ℕ) → k < 256 → IsEntry (has_entry_of (state fleet.now (view journal.now)) server group k) ((view journal.now).tag k) (slice_index_or result k Absent) }
 {
-    let mut keys = [Candidate::Absent; ROWS];
-    for k in 0..ROWS {
-        keys[k] = entry_key(fleet, journal, server, group, Row(k as u8));
-    }
-    keys
+    array::from_fn(|k| entry_key(fleet, journal, server, group, Row(k as u8)))
 }
 
 // The row of the group's first entry to forward at the server, none if the group has none.
@@ -55,9 +51,6 @@ pub fn first_entry(fleet: &Fleet, journal: &Journal, server: usize, group: usize
     ensures { row_found result ≡ least (has_entry_of (state fleet.now (view journal.now)) server group) (view journal.now).tag 256 }
 {
     let keys = entry_keys(fleet, journal, server, group);
-    let place = least(&keys)?;
-    match keys[place] {
-        Candidate::Waits(_) => Some(Row(place as u8)),
-        Candidate::Absent => None,
-    }
+    let place = least_waiting(&keys)?;
+    Some(Row(place as u8))
 }

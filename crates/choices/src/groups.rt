@@ -9,25 +9,23 @@ ghost use Rattle.model.specs.Turns.{chosen_group, group_waits, has_entry_of};
 ghost use Rattle.counting.specs.Below.{any};
 ghost use Rattle.servers.specs.Sets.{has};
 
-use crate::keys::{Candidate, GroupKey};
+use crate::keys::{Candidate, GroupKey, least_waiting};
 use fleet::Fleet;
 use journal::Journal;
 use messages::{ROWS, Row};
-use search::least;
 use servers::{SERVERS, ServerSet};
+use std::array;
 
 // The groups of which the server has an entry to forward.
 fn groups_to_forward(fleet: &Fleet, journal: &Journal, server: usize) -> ServerSet
     ensures { (j : ℕ) → j < 8 → has result.bits j ≡ any (has_entry_of (state fleet.now (view journal.now)) server j) 256 }
 {
-    let mut groups = ServerSet::empty();
-    for k in 0..ROWS {
-        let row = Row(k as u8);
-        if fleet.has_entry(server, row) {
-            groups = groups.with(journal.tag_of(row).server() as usize);
-        }
-    }
-    groups
+    (0..ROWS)
+        .map(|k| Row(k as u8))
+        .filter(|row| fleet.has_entry(server, *row))
+        .fold(ServerSet::empty(), |groups, row| {
+            groups.with(journal.tag_of(row).server() as usize)
+        })
 }
 
 // The groups that wait at the server: those of its entries to forward, and its own if a write is queued there.
@@ -48,15 +46,15 @@ fn group_key(
     server: usize,
     groups: ServerSet,
     some_entry: bool,
-    group: u8,
+    group: usize,
 ) -> Candidate<GroupKey>
     ensures { IsGroup (has groups.bits group) (counts_if some_entry (servers fleet.now) server group) group result }
 {
-    if !groups.contains(group as usize) {
+    if !groups.contains(group) {
         return Candidate::Absent;
     }
     let count = if some_entry {
-        fleet.turn_count(server, group as usize)
+        fleet.turn_count(server, group)
     } else {
         0
     };
@@ -73,11 +71,7 @@ fn group_keys(
     ensures sized { length result ≡ 8 }
     ensures keys { (j : ℕ) → j < 8 → IsGroup (has groups.bits j) (counts_if some_entry (servers fleet.now) server j) j (slice_index_or result j Absent) }
 {
-    let mut keys = [Candidate::Absent; SERVERS];
-    for group in 0..SERVERS {
-        keys[group] = group_key(fleet, server, groups, some_entry, group as u8);
-    }
-    keys
+    array::from_fn(|group| group_key(fleet, server, groups, some_entry, group))
 }
 
 // The group whose turn it is at the server, none if no group waits.
@@ -86,9 +80,5 @@ pub fn chosen_group(fleet: &Fleet, journal: &Journal, server: usize) -> Option<u
 {
     let groups = groups_waiting(fleet, journal, server);
     let keys = group_keys(fleet, server, groups, fleet.some_entry(server));
-    let place = least(&keys)?;
-    match keys[place] {
-        Candidate::Waits(_) => Some(place),
-        Candidate::Absent => None,
-    }
+    least_waiting(&keys)
 }

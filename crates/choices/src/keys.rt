@@ -1,59 +1,43 @@
 // The keys by which a turn chooses: those of groups, and those of what may wait or not. Entries go by tags, which are keys themselves.
-ghost use Rattle.choices.specs.Keys.{candidate_below, group_below};
-ghost use Rattle.std.proofs.Common.{rules};
+ghost use Rattle.choices.specs.Keys.{LeastWaiting, waits};
+ghost use Rattle.std.specs.Ordering.{is_lt};
+ghost use Rattle.std.specs.Prelude.{◌≡◌};
 
-use search::Key;
+use search::least;
 
 // A group that waits: its turn count, and its number, which decides between equal counts.
-#[derive(Clone, Copy)]
+#[derive(Clone, Copy, Debug, PartialEq, Eq, PartialOrd, Ord)]
 pub struct GroupKey {
     pub(crate) count: u16,
-    pub(crate) group: u8,
+    pub(crate) group: usize,
 }
 
-// The smaller count goes first, on a tie the smaller group.
-impl Key for GroupKey {
-    ghost below = { group_below };
+// What may wait or not. No Option, since None comes before every Some: the least of a row is to be one that waits.
+#[derive(Clone, Copy, Debug, PartialEq, Eq, PartialOrd, Ord)]
+pub enum Candidate<K> {
+    // It waits, with this key.
+    Waits(K),
+    // It does not wait, and ranks above all that does.
+    Absent,
+}
 
-    ghost irreflexive = { Prim.search rules };
-
-    ghost transitive = { Prim.search rules };
-
-    ghost total = { Prim.search rules };
-
-    fn is_below(self, other: GroupKey) -> bool {
-        if self.count == other.count {
-            self.group < other.group
-        } else {
-            self.count < other.count
-        }
+impl<K> Candidate<K> {
+    // Whether it waits.
+    fn waits(&self) -> bool
+        ensures { result ≡ waits self.now }
+    {
+        matches!(self, Candidate::Waits(_))
     }
 }
 
-// What may wait or not.
-#[derive(Clone, Copy)]
-pub enum Candidate<K> {
-    // It does not wait.
-    Absent,
-    // It waits, with this key.
-    Waits(K),
-}
-
-// What does not wait ranks above all that does.
-impl<K: Key> Key for Candidate<K> {
-    ghost below = { candidate_below K.below };
-
-    ghost irreflexive = { Prim.search rules };
-
-    ghost transitive = { Prim.search rules };
-
-    ghost total = { Prim.search rules };
-
-    fn is_below(self, other: Candidate<K>) -> bool {
-        match (self, other) {
-            (Candidate::Waits(key), Candidate::Waits(against)) => key.is_below(against),
-            (Candidate::Waits(_), Candidate::Absent) => true,
-            (Candidate::Absent, _) => false,
-        }
+// The place of the least key of what waits, the first among equals; none where nothing waits.
+pub(crate) fn least_waiting<K: Ord>(keys: &[Candidate<K>]) -> Option<usize>
+    ensures { LeastWaiting (λ a b. is_lt (K.cmp a b)) keys.now result }
+{
+    let place = least(keys)?;
+    if keys[place].waits() {
+        Some(place)
+    } else {
+        None
     }
 }

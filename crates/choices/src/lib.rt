@@ -1,4 +1,5 @@
 // The choices of a turn: which group of what waits at a server goes next, and which entry of that group goes first.
+// They take the fleet and the journal apart: the ring's memory, which holds both, belongs to the crates above that send and change.
 #![tactic(auto)]
 
 mod entries;

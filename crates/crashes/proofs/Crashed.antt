@@ -7,7 +7,7 @@ use Rattle.model.specs.declared.Outcome.TheVariants.{Done, Refused}
 use Rattle.model.specs.State.{State}
 use Rattle.model.specs.Refusals.{refuse, refuse_server}
 use Rattle.model.specs.Crashes.{refuse_crash, crashes, CrashStep}
-use Rattle.sending.specs.View.{outcome}
+use Rattle.model.specs.Outcomes.{outcome}
 use Rattle.sending.proofs.Telling.{refused_leaves_all, accepted_does_it}
 
 -- one server stands

@@ -1,3 +1,2 @@
 pub mod Crashed
-pub mod PendingRows
 pub mod Noticed

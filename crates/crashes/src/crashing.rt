@@ -1,7 +1,8 @@
 // How a server stops.
 ghost use Rattle.journal.specs.declared.journal.Journal.{Journal};
 ghost use Rattle.model.specs.Crashes.{CrashStep};
-ghost use Rattle.sending.specs.View.{outcome, state};
+ghost use Rattle.model.specs.Outcomes.{outcome};
+ghost use Rattle.sending.specs.View.{state};
 
 use fleet::Fleet;
 use model::Refusal;

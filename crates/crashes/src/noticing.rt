@@ -4,7 +4,8 @@ ghost use Rattle.fleet.specs.View.{servers};
 ghost use Rattle.journal.specs.declared.journal.Journal.{Journal};
 ghost use Rattle.crashes.specs.Pending.{pending_put};
 ghost use Rattle.model.specs.Crashes.{NoticeStep, sends_held, sends_pending};
-ghost use Rattle.sending.specs.View.{outcome, state};
+ghost use Rattle.model.specs.Outcomes.{outcome};
+ghost use Rattle.sending.specs.View.{state};
 ghost use Rattle.servers.specs.Sets.{alone};
 
 use fleet::Fleet;
@@ -46,6 +47,7 @@ pub fn notice<W: Wiring>(
 }
 
 // The server sends a write of its held row, unless that is row 0.
+// `server < 8` is required, and is no type of its own: that would be unwrapped at each call of the fleet, which takes numbers.
 fn send_held<W: Wiring>(fleet: &Fleet, wiring: &mut W, server: usize)
     requires { server < 8 }
     ensures { (j : Journal) → state j fleet.now (W.waits wiring.new) ≡ sends_held (state j fleet.now (W.waits wiring.old)) server }
@@ -83,12 +85,13 @@ fn send_pending<W: Wiring>(fleet: &Fleet, wiring: &mut W, server: usize)
 }
 
 // A pre-write of each row that is pending at the server is put to wait for another one.
+// A loop and no chain, since each row changes the wiring; `to` is a number for the same reason as above.
 fn put_pending<W: Wiring>(fleet: &Fleet, wiring: &mut W, server: usize, to: usize)
     requires { to < 8 }
     ensures { W.waits wiring.new ≡ pending_put ((servers fleet.now).pending server) to 256 (W.waits wiring.old) }
 {
     for row in 0..ROWS {
         let mask = fleet.pending(server, Row(row as u8));
-        wiring.put(to, row, Phase::PreWrite.number(), mask);
+        wiring.put(to, row, u8::from(Phase::PreWrite), mask);
     }
 }

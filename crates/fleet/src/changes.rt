@@ -1,14 +1,17 @@
 // What the calls of the ring change at one server. A number above 7 names no server, and changes nothing.
+// The servers are changed by index and not through `get_mut`: of what that lends out a proof would know the length alone.
+// No type holds the numbers below 8 alone: the calls take any number, and a narrower type would ask more of them.
 ghost use Rattle.std.specs.Prelude.{◌≡◌, ◌<◌, ◌≤◌, true};
 ghost use Rattle.fleet.specs.View.{ChangedAt, servers};
-ghost use Rattle.model.specs.ServerChanges.{servers_counted_if, servers_crashed, servers_held_if, servers_kept_prewrite, servers_kept_write, servers_noticed, servers_raised, servers_released_prewrite_if, servers_released_write, servers_started};
+ghost use Rattle.model.specs.ServerChanges.{servers_counted_if, servers_crashed, servers_held_if, servers_noticed, servers_raised, servers_released_prewrite_if, servers_released_write, servers_started};
 ghost use Rattle.journal.specs.View.{view};
 ghost use Rattle.operation.specs.Tags.{tag_key};
 ghost use Rattle.servers.specs.Sets.{join, one};
+ghost use Rattle.table.specs.Table.{servers_kept};
 
 use crate::fleet::Fleet;
 use journal::Journal;
-use messages::Row;
+use messages::{Phase, Row};
 use operation::Tag;
 use servers::{SERVERS, ServerSet};
 
@@ -31,25 +34,17 @@ impl Fleet {
         }
     }
 
-    // The mask joins that of the row's pre-write that the server is to forward.
-    pub fn keep_prewrite(&mut self, server: usize, row: Row, mask: ServerSet)
-        ensures { ChangedAt server self.old (servers_kept_prewrite (servers self.old) server row.0 mask.bits) self.new }
+    // The mask joins that of the row's pre-write or write that the server is to forward. Row, phase and mask and no `Message`, as for `send`.
+    pub fn keep(&mut self, server: usize, row: Row, phase: Phase, mask: ServerSet)
+        ensures { ChangedAt server self.old (servers_kept phase (servers self.old) server row.0 mask.bits) self.new }
     {
         if server < SERVERS {
-            self.list[server].keep_prewrite(row, mask);
-        }
-    }
-
-    // The mask joins that of the row's write that the server is to forward.
-    pub fn keep_write(&mut self, server: usize, row: Row, mask: ServerSet)
-        ensures { ChangedAt server self.old (servers_kept_write (servers self.old) server row.0 mask.bits) self.new }
-    {
-        if server < SERVERS {
-            self.list[server].keep_write(row, mask);
+            self.list[server].keep(row, phase, mask);
         }
     }
 
     // The row's pre-write leaves what the server is to forward. Gives its mask with the server added, which joins pending if the row is news.
+    // Not one function with the release of a write: a write is never news, and its mask joins nothing.
     pub fn release_prewrite(&mut self, server: usize, row: Row, is_news: bool) -> ServerSet
         ensures mask { server < 8 → result.bits ≡ join ((servers self.old).forward_prewrite server row.0) (one server) }
         ensures after { ChangedAt server self.old (servers_released_prewrite_if is_news (servers self.old) server row.0) self.new }

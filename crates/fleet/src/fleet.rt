@@ -5,7 +5,7 @@ ghost use Rattle.table.specs.Table.{cells_of, counts_of};
 use server::Server;
 use servers::SERVERS;
 
-// The servers of the ring: those below `size` belong to it.
+// The servers of the ring: those below `size` belong to it. All eight stand in the list, of the ring or not, as the rules speak of each number, and the memory is fixed.
 #[derive(Drop)]
 pub struct Fleet {
     pub(crate) size: usize,

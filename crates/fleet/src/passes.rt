@@ -25,41 +25,36 @@ impl Fleet {
     pub fn some_pending(&self, server: usize) -> bool
         ensures { result ≡ some_pending (servers self.now) server }
     {
-        let mut found = false;
-        for k in 0..ROWS {
-            found = self.is_pending(server, Row(k as u8)) || found;
-        }
-        found
+        self.list
+            .get(server)
+            .is_some_and(|found| found.some_pending())
     }
 
     // The highest pending tag at the server, the first tag if nothing is pending.
     pub fn highest_pending(&self, server: usize, journal: &Journal) -> Tag
         ensures { tag_key result ≡ highest_pending (state self.now (view journal.now)) server }
     {
-        let mut highest = Tag::FIRST;
-        for k in 0..ROWS {
-            let row = Row(k as u8);
-            if self.is_pending(server, row) {
-                highest = highest.max(journal.tag_of(row));
-            }
-        }
-        highest
+        (0..ROWS)
+            .map(|k| Row(k as u8))
+            .filter(|row| self.is_pending(server, *row))
+            .map(|row| journal.tag_of(row))
+            .fold(Tag::FIRST, |highest, tag| highest.max(tag))
     }
 
     // The row that the server holds or that is pending there with the highest tag: a write that starts there takes the number after its.
     pub fn highest_row(&self, server: usize, journal: &Journal) -> Row
         ensures { 1 + tag_number ((view journal.now).tag result.0) ≡ fresh_number (state self.now (view journal.now)) server }
     {
-        let mut highest = self.held(server);
-        for k in 0..ROWS {
-            let row = Row(k as u8);
-            if self.is_pending(server, row)
-                && journal.tag_of(highest).is_below(journal.tag_of(row))
-            {
-                highest = row;
-            }
-        }
-        highest
+        (0..ROWS)
+            .map(|k| Row(k as u8))
+            .filter(|row| self.is_pending(server, *row))
+            .fold(self.held(server), |highest, row| {
+                if journal.tag_of(highest).is_below(journal.tag_of(row)) {
+                    row
+                } else {
+                    highest
+                }
+            })
     }
 
     // Whether the server has an entry of the row to forward.
@@ -73,34 +68,24 @@ impl Fleet {
     pub fn some_entry(&self, server: usize) -> bool
         ensures { result ≡ some_entry (servers self.now) server }
     {
-        let mut found = false;
-        for k in 0..ROWS {
-            found = self.has_entry(server, Row(k as u8)) || found;
-        }
-        found
+        self.list
+            .get(server)
+            .is_some_and(|found| found.some_entry())
     }
 
     // How many entries the server has to forward.
     pub fn forward_count(&self, server: usize) -> usize
         ensures { result ≡ forward_count (servers self.now) server }
     {
-        let mut entries = 0;
-        for k in 0..ROWS {
-            entries += self.cell(server, Row(k as u8)).entry_count();
-        }
-        entries
+        self.list.get(server).map_or(0, |found| found.entry_count())
     }
 
     // How many servers stand.
     pub fn standing_count(&self) -> usize
         ensures { result ≡ count (servers self.now).standing self.now.size }
     {
-        let mut standing = 0;
-        for server in 0..self.size {
-            if self.is_standing(server) {
-                standing += 1;
-            }
-        }
-        standing
+        (0..self.size)
+            .filter(|server| self.is_standing(*server))
+            .count()
     }
 }

@@ -15,7 +15,7 @@ use journal::Journal;
 use messages::Row;
 use operation::Tag;
 use server::Cell;
-use servers::{SERVERS, ServerSet};
+use servers::ServerSet;
 
 impl Fleet {
     // How many servers the ring has, 0 if it was never made.
@@ -30,40 +30,34 @@ impl Fleet {
     pub fn is_standing(&self, server: usize) -> bool
         ensures { result ≡ (servers self.now).standing server }
     {
-        server < SERVERS && self.list[server].is_standing()
+        self.list
+            .get(server)
+            .is_some_and(|found| found.is_standing())
     }
 
     // The server's held row.
     pub fn held(&self, server: usize) -> Row
         ensures { result.0 ≡ (servers self.now).held server }
     {
-        if server < SERVERS {
-            self.list[server].held()
-        } else {
-            Row(0)
-        }
+        self.list.get(server).map_or(Row(0), |found| found.held())
     }
 
     // The server's returned tag.
     pub fn returned(&self, server: usize) -> Tag
         ensures { tag_key result ≡ (servers self.now).returned server }
     {
-        if server < SERVERS {
-            self.list[server].returned()
-        } else {
-            Tag::FIRST
-        }
+        self.list
+            .get(server)
+            .map_or(Tag::FIRST, |found| found.returned())
     }
 
     // The servers whose crash the server has noticed.
     fn noticed(&self, server: usize) -> ServerSet
         ensures { result ≡ (server_at self.now.list server).noticed }
     {
-        if server < SERVERS {
-            self.list[server].noticed()
-        } else {
-            ServerSet::empty()
-        }
+        self.list
+            .get(server)
+            .map_or(ServerSet::empty(), |found| found.noticed())
     }
 
     // Whether the server has noticed the crash of the other one.
@@ -77,22 +71,18 @@ impl Fleet {
     pub fn turn_count(&self, server: usize, group: usize) -> u16
         ensures { result ≡ (servers self.now).turn_count server group }
     {
-        if server < SERVERS {
-            self.list[server].turn_count(group)
-        } else {
-            0
-        }
+        self.list
+            .get(server)
+            .map_or(0, |found| found.turn_count(group))
     }
 
     // What the server keeps of the row.
     pub(crate) fn cell(&self, server: usize, row: Row) -> Cell
         ensures { result ≡ cell_at (server_at self.now.list server) row.0 }
     {
-        if server < SERVERS {
-            self.list[server].cell(row)
-        } else {
-            Cell::empty()
-        }
+        self.list
+            .get(server)
+            .map_or(Cell::empty(), |found| found.cell(row))
     }
 
     // The mask under which the row is pending at the server, empty where it is not.

@@ -2,7 +2,7 @@
 use choices::{chosen_group, first_entry};
 use fleet::Fleet;
 use journal::Journal;
-use messages::Row;
+use messages::{Phase, Row};
 use operation::Request;
 use servers::ServerSet;
 
@@ -29,8 +29,8 @@ fn groups_take_turns(rt: HostRuntime) {
     let mut journal = two_started_writes();
     let mut fleet = three_servers();
     assert_eq!(rt; chosen_group(&fleet, &journal, 0), None, "nothing waits");
-    fleet.keep_prewrite(0, Row(1), ServerSet::only(1));
-    fleet.keep_prewrite(0, Row(2), ServerSet::only(2));
+    fleet.keep(0, Row(1), Phase::PreWrite, ServerSet::only(1));
+    fleet.keep(0, Row(2), Phase::PreWrite, ServerSet::only(2));
     assert_eq!(rt;
         chosen_group(&fleet, &journal, 0),
         Some(1),
@@ -42,7 +42,7 @@ fn groups_take_turns(rt: HostRuntime) {
         Some(2),
         "then the one with the smaller count"
     );
-    assert!(rt; first_entry(&fleet, &journal, 0, 2) == Some(Row(2)));
+    assert_eq!(rt; first_entry(&fleet, &journal, 0, 2), Some(Row(2)));
     let _ = journal.begin(0, 0, Request::Write);
     assert_eq!(rt;
         chosen_group(&fleet, &journal, 0),
@@ -64,14 +64,14 @@ fn a_held_row_settles_those_below_it(rt: HostRuntime) {
     assert!(rt; !fleet.is_pending(1, Row(1)));
     assert!(rt; fleet.is_pending(1, Row(2)), "its tag is above");
     assert!(rt; !fleet.is_news(1, Row(1), &journal));
-    assert!(rt; fleet.highest_row(1, &journal) == Row(2));
+    assert_eq!(rt; fleet.highest_row(1, &journal), Row(2));
 }
 
 #[test]
 fn a_crash_leaves_nothing_to_forward(rt: HostRuntime) {
     let mut fleet = three_servers();
-    fleet.keep_prewrite(2, Row(1), ServerSet::only(1));
-    fleet.keep_write(2, Row(1), ServerSet::only(1));
+    fleet.keep(2, Row(1), Phase::PreWrite, ServerSet::only(1));
+    fleet.keep(2, Row(1), Phase::Write, ServerSet::only(1));
     assert_eq!(rt; (fleet.standing_count(), fleet.forward_count(2)), (3, 2));
     fleet.crash(2);
     assert_eq!(rt; (fleet.standing_count(), fleet.forward_count(2)), (2, 0));
@@ -82,7 +82,7 @@ fn a_crash_leaves_nothing_to_forward(rt: HostRuntime) {
 #[test]
 fn a_number_above_7_names_no_server(rt: HostRuntime) {
     let mut fleet = three_servers();
-    fleet.keep_write(8, Row(1), ServerSet::only(1));
+    fleet.keep(8, Row(1), Phase::Write, ServerSet::only(1));
     assert_eq!(rt; fleet.forward_count(8), 0);
     assert!(rt; !fleet.is_standing(8));
     fleet.reset(9);

@@ -1,9 +1,9 @@
 -- Answering rows one by one, in row order, is the model's answer of all that pass a test.
 -- A loop keeps that the rows passed so far are answered, each under the mark that counts the ones before it, and the others stand as they were.
-use Rattle.std.proofs.Common.{◌≡◌, ℕ, ◌+◌, ◌<◌, ◌≤◌, Bool, true, false, cond, not, ◌&&◌, eqb, ltb, ◌≢◌, List, length, set, sym, refl, ap, ◌∙◌, subst, ⊎_elim, arith, get_or-set_other, get_or-set_same}
+use Rattle.std.proofs.Common.{◌≡◌, ℕ, ◌+◌, ◌<◌, Bool, true, false, cond, not, ◌&&◌, eqb, ltb, ◌≢◌, List, length, set, sym, refl, ap, ◌∙◌, subst, ⊎_elim, arith, get_or-set_other, get_or-set_same}
 use mathlib.Core.Path.{fun_ext}
 use Rattle.std.proofs.lemmas.Bool.Decides.{nat_tests}
-use Rattle.std.proofs.lemmas.Bool.{cases_Bool, cases_eq, ne_eqb, eq-eqb, and_parts, ltb-true, cond-true, cond-false}
+use Rattle.std.proofs.lemmas.Bool.{cases_Bool, cases_eq, ne_eqb, eq-eqb, and_parts, ltb-true, cond-true, cond-false, true≢false}
 use Rattle.counting.specs.Below.{count, count_none, count_more}
 use Rattle.model.specs.JournalChanges.{journal_answered}
 use Rattle.messages.specs.declared.Row.{Row}
@@ -14,9 +14,12 @@ use Rattle.operation.specs.Events.{after, unused_operation}
 use Rattle.operation.specs.Parts.{is_write, is_answered, answer_mark, state_tag, threshold_key, row_given, is_taken, is_open, is_open_read, is_answerable}
 use Rattle.operation.proofs.Fits.{Answers, an_answer_fits, an_open_read_is_answerable}
 use Rattle.journal.specs.Rows.{operation_at, state_at}
-use Rattle.journal.specs.View.{journal_of}
+use Rattle.journal.specs.Tests.{passes_in}
+use Rattle.journal.specs.View.{journal_of, view}
+use Rattle.journal.specs.declared.journal.Journal.{Journal}
 use Rattle.journal.specs.Questions.{is_open_read as row_is_open_read}
-use Rattle.journal.proofs.Counts.{nothing_passes, one_passes}
+use Rattle.counting.proofs.Counts.{nothing_passes}
+use Rattle.journal.proofs.Counts.{one_passes}
 use Rattle.journal.proofs.Facts.{Facts}
 use Rattle.journal.proofs.Same.{read_is_read}
 
@@ -25,6 +28,7 @@ pub record Kept (f : ℕ → Bool) (was : ℕ → Operation) (by : ℕ → ℕ �
   pub same : u ≡ used
   pub marks : m ≡ mark + count f k
   pub each : (j : ℕ) → operation_at rows j ≡ cond (ltb j k) (cond (f j) (by j (mark + count f j + 1)) (was j)) (was j)
+  pub fits : (j : ℕ) → j < k → f j ≡ true → is_answerable (was j) ≡ true
 
 -- row j of the rows, after its answer under a mark
 abbrev pub answer_of : List Operation → Row → ℕ → ℕ → Operation
@@ -34,16 +38,20 @@ module _ (f : ℕ → Bool) (was : ℕ → Operation) (by : ℕ → ℕ → Oper
   pub the_next_row_stands : operation_at rows k ≡ was k
   the_next_row_stands = let z = h.each k in grind (arith, nat_tests)
 
+  fits_below_the_next : (f k ≡ true → is_answerable (was k) ≡ true) → (j : ℕ) → j < k + 1 → f j ≡ true → is_answerable (was j) ≡ true
+  fits_below_the_next here j l t = ⊎_elim (λ (q : j ≡ k). ap (λ i. is_answerable (was i)) q ∙ here (ap f (sym q) ∙ t)) (λ (ne : j ≡ k → ⊥). h.fits j (omega arith) t) (cases_eq j k)
+
   pub a_row_is_passed : f k ≡ false → Kept f was by used mark rows u m (k + 1)
   a_row_is_passed e = let c = count_more f k in let x = h.marks in record {
     same = h.same;
     marks = grind (arith, nat_tests);
     each = λ j. let z = h.each j in grind (arith, nat_tests);
+    fits = λ j l t. fits_below_the_next (λ p. absurd (true≢false (sym p ∙ e))) j l t;
   }
 
-  pub a_row_is_answered : f k ≡ true → k < length rows → (after_rows : List Operation) (after_used after_mark : ℕ) (new : Operation)
+  pub a_row_is_answered : f k ≡ true → is_answerable (was k) ≡ true → k < length rows → (after_rows : List Operation) (after_used after_mark : ℕ) (new : Operation)
       → after_used ≡ u → after_mark ≡ m + 1 → after_rows ≡ set rows k new → new ≡ by k (m + 1) → Kept f was by used mark after_rows after_used after_mark (k + 1)
-  a_row_is_answered e low after_rows after_used after_mark new same_used next_mark put is =
+  a_row_is_answered e fit low after_rows after_used after_mark new same_used next_mark put is =
       let c = count_more f k in let x = h.marks in
       let here = get_or-set_same rows k new unused_operation low in
       let other = λ (j : ℕ) (ne : j ≢ k). get_or-set_other rows k j new unused_operation ne in
@@ -53,10 +61,11 @@ module _ (f : ℕ → Bool) (was : ℕ → Operation) (by : ℕ → ℕ → Oper
         same = same_used ∙ h.same;
         marks = grind (arith, nat_tests);
         each = λ j. ap (λ l. operation_at l j) put ∙ (let z = h.each j in let w = other j in grind (arith, nat_tests));
+        fits = fits_below_the_next (λ t. fit);
       }
 
 pub nothing_is_answered_yet : (f : ℕ → Bool) (by : ℕ → ℕ → Operation) (used mark : ℕ) (rows : List Operation) → Kept f (operation_at rows) by used mark rows used mark 0
-nothing_is_answered_yet f by used mark rows = let c = count_none f in record { same = refl; marks = omega arith; each = λ j. grind (arith, nat_tests) }
+nothing_is_answered_yet f by used mark rows = let c = count_none f in record { same = refl; marks = omega arith; each = λ j. grind (arith, nat_tests); fits = λ j l t. absurd (omega arith) }
 
 module _ (f : ℕ → Bool) (used mark : ℕ) (was rows : List Operation) (given : Row) (fits : (j : ℕ) → f j ≡ true → is_answerable (operation_at was j) ≡ true)
     (each : (j : ℕ) → operation_at rows j ≡ cond (f j) (answer_of was given j (mark + count f j + 1)) (operation_at was j)) where
@@ -107,11 +116,12 @@ module _ (f : ℕ → Bool) (used mark : ℕ) (was rows : List Operation) (given
       reads_alone_give = fun_ext (λ j. let b = λ (e : f j ≡ true). (the_answer_fits j e).says.gave_before in grind (arith, nat_tests))
 
 -- a loop over the used rows has answered all that pass
-pub the_loop_answers_all : (f : ℕ → Bool) (used mark : ℕ) (was rows : List Operation) (given : Row) (u m : ℕ)
-    → ((j : ℕ) → f j ≡ true → is_answerable (operation_at was j) ≡ true) → ((j : ℕ) → used ≤ j → f j ≡ false)
-    → Kept f (operation_at was) (answer_of was given) used mark rows u m used → journal_of u m rows ≡ journal_answered (journal_of used mark was) f given.0
-the_loop_answers_all f used mark was rows given u m fits past h =
-    all_are_answered f used mark was rows given fits (λ j. let z = h.each j in let y = past j in grind (arith, nat_tests)) u m h.same h.marks
+pub the_loop_answers_all : (test : Operation → Bool) (j : Journal) (given : Row) (used mark : ℕ) (rows : List Operation)
+    → Kept (passes_in j test) (operation_at j.rows) (answer_of j.rows given) j.used j.mark rows used mark j.used → journal_of used mark rows ≡ journal_answered (view j) (passes_in j test) given.0
+the_loop_answers_all test j given used mark rows h =
+    all_are_answered (passes_in j test) j.used j.mark j.rows rows given
+    (λ k t. h.fits k (ltb-true k j.used (and_parts (ltb k j.used) (test (operation_at j.rows k)) t).0) t)
+    (λ k. let z = h.each k in grind (arith, nat_tests)) used mark h.same h.marks
 
 -- one row is answered
 module _ (used mark : ℕ) (was : List Operation) (h : Facts used mark was) (row : ℕ) (given : Row) where

@@ -15,7 +15,8 @@ use Rattle.journal.specs.Questions.{no_journal}
 use Rattle.journal.proofs.Facts.{Facts, facts_after_a_set}
 use Rattle.journal.proofs.Views.{the_view_after_a_set}
 
-get_or_replicate : {A : Type 0} (n i : ℕ) (a : A) → get_or (replicate n a) i a ≡ a
+-- everywhere in a row of equal things, and past its end, is that thing
+pub get_or_replicate : {A : Type 0} (n i : ℕ) (a : A) → get_or (replicate n a) i a ≡ a
 get_or_replicate zero i a = refl
 get_or_replicate (suc n) zero a = refl
 get_or_replicate (suc n) (suc i) a = get_or_replicate n i a

@@ -1,21 +1,12 @@
 -- How many rows pass a test after one row is set: the count moves by what the row itself counts before and after.
-use Rattle.std.proofs.Common.{◌≡◌, ℕ, zero, suc, ◌+◌, ◌<◌, ◌≤◌, Bool, true, false, cond, List, length, set, refl, ap, ◌∙◌, ⊎_elim, arith, get_or-set_other, get_or-set_same}
+use Rattle.std.proofs.Common.{◌≡◌, ℕ, zero, suc, ◌+◌, ◌<◌, Bool, true, false, cond, List, length, set, refl, ap, ◌∙◌, ⊎_elim, arith, get_or-set_other, get_or-set_same}
 use Rattle.std.proofs.lemmas.Bool.Decides.{nat_tests}
 use Rattle.std.proofs.lemmas.Bool.{cases_eq}
 use Rattle.counting.specs.Below.{count}
+use Rattle.counting.proofs.Counts.{counts_of_equal_tests_are_equal, nothing_passes}
 use Rattle.operation.specs.declared.operation.Operation.{Operation}
 use Rattle.operation.specs.declared.operation.State.{State}
 use Rattle.journal.specs.Rows.{state_at, how_many}
-
-pub a_count_is_at_most_its_bound : (f : ℕ → Bool) (n : ℕ) → count f n ≤ n
-unfolding count
-a_count_is_at_most_its_bound f zero = omega arith
-a_count_is_at_most_its_bound f (suc n) = let a = a_count_is_at_most_its_bound f n in grind (arith, nat_tests)
-
-pub counts_of_equal_tests_are_equal : (f g : ℕ → Bool) (n : ℕ) → ((k : ℕ) → k < n → f k ≡ g k) → count f n ≡ count g n
-unfolding count
-counts_of_equal_tests_are_equal f g zero h = refl
-counts_of_equal_tests_are_equal f g (suc n) h = let a = counts_of_equal_tests_are_equal f g n (λ k l. h k (omega arith)) in let b = h n (omega arith) in grind (arith, nat_tests)
 
 -- tests that differ at r alone
 one_changes : (f g : ℕ → Bool) (r n : ℕ) → r < n → ((k : ℕ) → (k ≡ r → ⊥) → g k ≡ f k) → count g n + cond (f r) 1 0 ≡ count f n + cond (g r) 1 0
@@ -25,11 +16,6 @@ one_changes f g r (suc n) l h = ⊎_elim
     (λ (q : n ≡ r). let a = counts_of_equal_tests_are_equal g f n (λ k low. h k (omega arith)) in let z = ap f q in let y = ap g q in grind (arith, nat_tests))
     (λ (ne : n ≡ r → ⊥). let a = one_changes f g r n (omega arith) h in let z = h n ne in grind (arith, nat_tests))
     (cases_eq n r)
-
-pub nothing_passes : (f : ℕ → Bool) (n : ℕ) → ((k : ℕ) → k < n → f k ≡ false) → count f n ≡ 0
-unfolding count
-nothing_passes f zero h = refl
-nothing_passes f (suc n) h = let a = nothing_passes f n (λ k l. h k (omega arith)) in let b = h n (omega arith) in grind (arith, nat_tests)
 
 pub one_passes : (f : ℕ → Bool) (r n : ℕ) → r < n → f r ≡ true → ((k : ℕ) → (k ≡ r → ⊥) → f k ≡ false) → count f n ≡ 1
 one_passes f r n l e h =

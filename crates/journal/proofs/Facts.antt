@@ -6,7 +6,8 @@ use Rattle.operation.specs.declared.operation.State.{State}
 use Rattle.operation.specs.Parts.{is_taken, is_answered, has_tag, is_numbered, state_tag}
 use Rattle.journal.specs.declared.journal.Journal.{Journal}
 use Rattle.journal.specs.Rows.{state_at, tag_number_at, how_many}
-use Rattle.journal.proofs.Counts.{a_count_is_at_most_its_bound, setting_a_row_moves_the_count}
+use Rattle.counting.proofs.Counts.{a_count_is_at_most_its_bound}
+use Rattle.journal.proofs.Counts.{setting_a_row_moves_the_count}
 
 -- the facts of a journal, together
 pub record Facts (used mark : ℕ) (rows : List Operation) : Type 0 where

@@ -6,8 +6,8 @@ ghost use Rattle.model.specs.JournalChanges.{new_journal};
 ghost use Rattle.operation.specs.Parts.{asks_to_write, threshold_asked};
 ghost use Rattle.std.specs.Prelude.{◌≡◌};
 
-use crate::journal::{Journal, ROWS};
-use messages::Row;
+use crate::journal::Journal;
+use messages::{ROWS, Row};
 use operation::{Event, Operation, Request, Tag};
 
 impl Journal {

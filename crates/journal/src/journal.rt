@@ -3,12 +3,12 @@ ghost use Rattle.std.specs.Prelude.{◌≡◌, ℕ, ◌+◌, ◌≤◌, true, le
 ghost use Rattle.journal.specs.Rows.{how_many, state_at, tag_number_at};
 ghost use Rattle.operation.specs.Parts.{has_tag, is_answered, is_numbered, is_taken};
 
+use messages::ROWS;
 use operation::Operation;
 
-// How many rows a journal has.
-pub const ROWS: usize = 256;
-
 // The rows of all operations, in the order in which they began; `mark` is the last mark given.
+// All 256 rows stand here from the start, used or not: the journal takes no heap, and the rules speak of the unused rows too.
+// No model of its own: the private calls speak of the fields.
 #[derive(Drop)]
 pub struct Journal {
     pub(crate) used: usize,

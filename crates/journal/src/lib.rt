@@ -6,4 +6,5 @@ mod changes;
 mod journal;
 mod questions;
 
-pub use journal::{Journal, ROWS};
+pub use journal::Journal;
+pub use messages::ROWS;

@@ -1,16 +1,18 @@
 // What the calls of the ring ask of the journal; no question changes it.
 ghost use Rattle.counting.specs.Below.{any, count, least};
 ghost use Rattle.journal.specs.Questions.{row_found};
+ghost use Rattle.journal.specs.Tests.{Computes, passes_in};
 ghost use Rattle.journal.specs.View.{view};
 ghost use Rattle.model.specs.Operations.{open_row};
 ghost use Rattle.model.specs.Questions.{named_row};
 ghost use Rattle.model.specs.State.{is_open, is_open_of, is_queued, is_stray, tag_number, tag_server};
 ghost use Rattle.operation.specs.Tags.{tag_key};
-ghost use Rattle.std.specs.Prelude.{◌≡◌, is_some, nat_le, nat_lt};
+ghost use Rattle.operation.specs.declared.operation.Operation.{Operation};
+ghost use Rattle.std.specs.Prelude.{◌≡◌, Bool, is_some, nat_le, nat_lt};
 
-use crate::journal::{Journal, ROWS};
-use messages::Row;
-use operation::Tag;
+use crate::journal::Journal;
+use messages::{ROWS, Row};
+use operation::{Operation, Tag};
 
 impl Journal {
     // How many rows are used, row 0 among them.
@@ -55,7 +57,7 @@ impl Journal {
         self.rows[row.0 as usize].is_answered()
     }
 
-    // The mark of the row's answer, 0 before it.
+    // The mark of the row's answer, 0 before it: the rules say 0 for no mark, and the first mark is 1.
     pub fn answer_mark(&self, row: Row) -> u32
         ensures { result ≡ (view self.now).answer_mark row.0 }
     {
@@ -90,17 +92,34 @@ impl Journal {
         row.0 == 0 || self.rows[row.0 as usize].tag().is_first()
     }
 
+    // The lowest used row whose operation passes the test, if there is one.
+    fn first_row<F: Fn(Operation) -> bool>(&self, passes: F) -> Option<Row>
+        requires { F.IsAlwaysCallable passes }
+        ensures { (test : Operation → Bool) → Computes (F.post passes) test → row_found result ≡ least (passes_in self.now test) (λ k. k) 256 }
+    {
+        let k = self.rows[..self.used]
+            .iter()
+            .position(|operation| passes(*operation))?;
+        Some(Row(k as u8))
+    }
+
+    // How many used rows hold an operation that passes the test.
+    fn row_count<F: Fn(Operation) -> bool>(&self, passes: F) -> u16
+        requires { F.IsAlwaysCallable passes }
+        ensures { (test : Operation → Bool) → Computes (F.post passes) test → result ≡ count (passes_in self.now test) 256 }
+    {
+        self.rows[..self.used]
+            .iter()
+            .filter(|operation| passes(**operation))
+            .count() as u16
+    }
+
     // The open row of the client, if it has one.
     pub fn open_row(&self, client: u8) -> Option<Row>
         ensures found { row_found result ≡ open_row (view self.now) client }
         ensures some { is_some result ≡ any (is_open_of (view self.now) client) 256 }
     {
-        for k in 0..self.used {
-            if self.rows[k].is_open_of(client) {
-                return Some(Row(k as u8));
-            }
-        }
-        None
+        self.first_row(|operation| operation.is_open_of(client))
     }
 
     // The lowest row whose write is queued at the server, if there is one.
@@ -108,37 +127,20 @@ impl Journal {
         ensures found { row_found result ≡ least (is_queued (view self.now) server) (λ k. k) 256 }
         ensures some { is_some result ≡ any (is_queued (view self.now) server) 256 }
     {
-        for k in 0..self.used {
-            if self.rows[k].is_queued_at(server) {
-                return Some(Row(k as u8));
-            }
-        }
-        None
+        self.first_row(|operation| operation.is_queued_at(server))
     }
 
     // How many writes are queued at the server, given up or not.
     pub fn queued_count(&self, server: u8) -> u16
         ensures { result ≡ count (is_queued (view self.now) server) 256 }
     {
-        let mut queued = 0;
-        for row in 0..self.used {
-            if self.rows[row].is_queued_at(server) {
-                queued += 1;
-            }
-        }
-        queued
+        self.row_count(|operation| operation.is_queued_at(server))
     }
 
     // How many operations are open.
     pub fn open_count(&self) -> u16
         ensures { result ≡ count (is_open (view self.now)) 256 }
     {
-        let mut live = 0;
-        for row in 0..self.used {
-            if self.rows[row].is_open() {
-                live += 1;
-            }
-        }
-        live
+        self.row_count(Operation::is_open)
     }
 }

@@ -22,10 +22,17 @@ const WAITING: Shown = (false, true, false, 0);
 
 const TOLD: Shown = (false, false, true, 0);
 
-fn shown(o: Operation) -> Shown {
-    (o.is_write(), o.is_open(), o.is_answered(), o.tag().number())
+// What shows of this operation.
+fn shown(operation: Operation) -> Shown {
+    (
+        operation.is_write(),
+        operation.is_open(),
+        operation.is_answered(),
+        operation.tag().number(),
+    )
 }
 
+// Client 3 asks for this at server 1, under mark 5.
 fn begin(request: Request) -> Event {
     Event::Begin {
         client: 3,
@@ -38,27 +45,31 @@ fn begin(request: Request) -> Event {
 // Begin, start, answer and give up leave these behind, in this order.
 fn check_row(
     rt: &impl Abort,
-    o: Operation,
+    operation: Operation,
     begun: Shown,
     started: Shown,
     answered: Shown,
     given_up: Shown,
 ) {
-    assert_eq!(rt; shown(o.after(begin(Request::Write))), begun, "begin");
     assert_eq!(rt;
-        shown(o.after(Event::Start(Tag::new(7, 1)))),
+        shown(operation.after(begin(Request::Write))),
+        begun,
+        "begin"
+    );
+    assert_eq!(rt;
+        shown(operation.after(Event::Start(Tag::new(7, 1)))),
         started,
         "start"
     );
     assert_eq!(rt;
-        shown(o.after(Event::Answer {
+        shown(operation.after(Event::Answer {
             row: Row(4),
             mark: 9,
         })),
         answered,
         "answer"
     );
-    assert_eq!(rt; shown(o.after(Event::GiveUp)), given_up, "give up");
+    assert_eq!(rt; shown(operation.after(Event::GiveUp)), given_up, "give up");
 }
 
 #[test]

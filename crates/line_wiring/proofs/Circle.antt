@@ -1,6 +1,6 @@
 -- A circular buffer is a queue: its first place is at the head, and a place written behind the last one stands last.
 -- The head goes round the buffer with the induction on the number of places.
-use Rattle.std.proofs.Common.{◌≡◌, ℕ, zero, suc, ◌+◌, ◌-◌, ◌%◌, ◌<◌, ◌≢◌, List, [], ◌∷◌, ◌++◌, length, get_or, set, refl, ap, ◌∙◌, arith}
+use Rattle.std.proofs.Common.{◌≡◌, ℕ, zero, suc, ◌+◌, ◌%◌, ◌<◌, ◌≢◌, List, [], ◌∷◌, ◌++◌, length, get_or, set, refl, ap, ◌∙◌, arith}
 use Rattle.std.proofs.lemmas.List.{get_or-set_same, get_or-set_other}
 use Rattle.masks.specs.Listed.{no_place}
 use Rattle.messages.specs.declared.Place.{Place}
@@ -9,10 +9,6 @@ use Rattle.line_wiring.specs.Queued.{from}
 pub a_queue_has_its_length : (places : List Place) (head n : ℕ) → length (from places head n) ≡ n
 a_queue_has_its_length places head zero = refl
 a_queue_has_its_length places head (suc n) = omega (arith, a_queue_has_its_length places ((head + 1) % 512) n)
-
-pub the_first_stands_at_the_head : (places : List Place) (head n : ℕ) → (n ≡ 0 → ⊥) → from places head n ≡ get_or places head no_place ∷ from places ((head + 1) % 512) (n - 1)
-the_first_stands_at_the_head places head zero some = absurd (some refl)
-the_first_stands_at_the_head places head (suc n) some = let e : suc n - 1 ≡ n = omega arith in simp e
 
 pub the_last_stands_behind : (places : List Place) (place : Place) (head n at : ℕ) → length places ≡ 512 → head < 512 → n < 512 → at ≡ (head + n) % 512
     → from (set places at place) head (suc n) ≡ from places head n ++ place ∷ []

@@ -1,2 +1,2 @@
 mod Circle
-mod Served
+mod Out

@@ -1,8 +1,6 @@
 // The line wiring: for each server a line of messages, handed out by order of arrival (specs/Lines).
 #![tactic(auto)]
 
-mod lane;
-mod lane_calls;
 mod line_wiring;
 mod queue;
 mod queue_calls;

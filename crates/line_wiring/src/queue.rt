@@ -5,6 +5,7 @@ use masks::PLACES;
 use messages::Place;
 
 // The first of `len` places stands at `head`, the next ones behind it; behind the last of the buffer comes the first.
+// An array with its length: it needs no heap, and is `Copy` as a wiring is.
 #[derive(Clone, Copy)]
 pub(crate) struct Queue {
     pub(crate) places: [Place; PLACES],

@@ -1,16 +1,20 @@
-// The queue's calls: a new one, its length, one more place at the end, the first place out.
+// The queue's calls, as a store of places: a new one, its length, one more place at the end, the first place out.
 ghost use Rattle.line_wiring.specs.Queued.{Popped, queued};
-ghost use Rattle.std.specs.Prelude.{◌≡◌, [], ◌∷◌, ◌++◌, length, if◌then◌else◌, nat_lt};
+ghost use Rattle.std.specs.Prelude.{refl};
 
 use crate::queue::Queue;
-use masks::{NO_PLACE, PLACES};
+use masks::{NO_PLACE, PLACES, Store};
 use messages::Place;
 
-impl Queue {
+impl Store for Queue {
+    ghost listed = { queued };
+
+    ghost chosen = { λ before number place after. Popped before place after };
+
+    ghost none_of_nothing = { λ number. (refl, refl) };
+
     // An empty queue.
-    pub(crate) fn new() -> Queue
-        ensures { queued result ≡ [] }
-    {
+    fn new() -> Queue {
         Queue {
             places: [NO_PLACE; PLACES],
             head: 0,
@@ -19,26 +23,20 @@ impl Queue {
     }
 
     // How many places are in the queue.
-    pub(crate) fn len(&self) -> usize
-        ensures { result ≡ length (queued self.now) }
-    {
+    fn len(&self) -> usize {
         self.len
     }
 
     // The place stands last; a full queue stays as it is.
-    pub(crate) fn push(&mut self, place: Place)
-        ensures { queued self.new ≡ (if nat_lt (length (queued self.old)) 512 then queued self.old ++ place ∷ [] else queued self.old) }
-    {
+    fn push(&mut self, place: Place) {
         if self.len < PLACES {
             self.places[(self.head + self.len) % PLACES] = place;
             self.len += 1;
         }
     }
 
-    // Takes the first place out.
-    pub(crate) fn pop(&mut self) -> Option<Place>
-        ensures { Popped (queued self.old) result (queued self.new) }
-    {
+    // Takes the first place out, whatever the number.
+    fn take(&mut self, _number: usize) -> Option<Place> {
         if self.len == 0 {
             return None;
         }

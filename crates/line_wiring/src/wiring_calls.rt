@@ -1,22 +1,20 @@
 // The line wiring behind the interface of wirings. Besides what the interface asks, each call says what it does to the lines.
-// Where a lane changes it is lent through a variable, `lanes`: the checker does not follow a loan through two structs with ghost fields at once.
-ghost use Rattle.line_wiring.specs.Lines.{FirstOut, arrived_at, emptied_at, line_waits, lines};
+ghost use Rattle.line_wiring.specs.Lines.{FirstOut, line_waits, lines};
+ghost use Rattle.masks.specs.Lines.{arrived_at, emptied_at};
 ghost use Rattle.messages.specs.Waiting.{Taken, cleared, nothing, put_in};
 ghost use Rattle.std.specs.Prelude.{◌≡◌, []};
-ghost use Rattle.line_wiring.specs.Line.{lane_masks};
-ghost use Rattle.masks.proofs.Lanes.{nothing_waits_elsewhere};
-ghost use Rattle.masks.proofs.Rows.{no_place_has_a_mask};
+ghost use Rattle.masks.proofs.Lines.{nothing_waits_off_the_places};
 
-use crate::lane::Lane;
 use crate::line_wiring::LineWiring;
-use messages::{Message, Place};
-use servers::{SERVERS, ServerSet};
+use masks::ServerLanes;
+use messages::Message;
+use servers::ServerSet;
 use wiring::Wiring;
 
 impl Wiring for LineWiring {
     ghost waits = { line_waits };
 
-    ghost only_at_places = { λ w server row phase h. nothing_waits_elsewhere lane_masks w.lanes server row phase w.eight (λ lane out. no_place_has_a_mask lane.masks.rows row phase lane.masks.sized out) h };
+    ghost only_at_places = { λ w. nothing_waits_off_the_places w.lanes };
 
     // Every line is empty.
     fn new() -> LineWiring
@@ -24,7 +22,7 @@ impl Wiring for LineWiring {
         ensures order { lines result ≡ (λ server. []) }
     {
         LineWiring {
-            lanes: [Lane::new(); SERVERS],
+            lanes: ServerLanes::new(),
         }
     }
 
@@ -33,14 +31,7 @@ impl Wiring for LineWiring {
         ensures waiting { line_waits self.new ≡ put_in (line_waits self.old) to row phase mask.bits }
         ensures order { lines self.new ≡ arrived_at (lines self.old) (line_waits self.old) to row phase mask.bits }
     {
-        if to >= SERVERS {
-            return;
-        }
-        let Some(place) = Place::from_numbers(row, phase) else {
-            return;
-        };
-        let lanes = &mut self.lanes;
-        lanes[to].put(place, mask);
+        self.lanes.put(to, row, phase, mask);
     }
 
     // The message that came first.
@@ -48,19 +39,13 @@ impl Wiring for LineWiring {
         ensures waiting { Taken (line_waits self.old) server result (line_waits self.new) }
         ensures order { FirstOut (lines self.old) server result (lines self.new) }
     {
-        if server >= SERVERS {
-            return None;
-        }
-        let lanes = &mut self.lanes;
-        lanes[server].take()
+        // Any number would do: a queue hands out its first place.
+        self.lanes.take(server, 0)
     }
 
     // As long as the line.
     fn count(&self, server: usize) -> usize {
-        if server >= SERVERS {
-            return 0;
-        }
-        self.lanes[server].count()
+        self.lanes.count(server)
     }
 
     // Empties the line.
@@ -68,9 +53,7 @@ impl Wiring for LineWiring {
         ensures waiting { line_waits self.new ≡ cleared (line_waits self.old) server }
         ensures order { lines self.new ≡ emptied_at (lines self.old) server }
     {
-        if server < SERVERS {
-            self.lanes[server] = Lane::new();
-        }
+        self.lanes.clear(server);
     }
 
     // The order of arrival leaves nothing to pick.

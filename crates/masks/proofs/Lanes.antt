@@ -96,22 +96,12 @@ module _ {Lane : Type 0} (masks : Lane → Masks) (lanes : List Lane) where
         a_mask_leaves_a_lane server row phase lane (omega arith) (left ∙ ap (λ (a : Masks). with_mask a row phase 0) (sym has)),
       )
 
-  pub no_lane_gives : (server : ℕ) → length lanes ≤ server → Taken (by_server masks lanes) server None (by_server masks lanes)
-  no_lane_gives server l = ((λ row phase. ap (λ (m : Masks). m row phase) (past_the_lanes_is_none masks all_empty lanes server l)), refl)
-
   pub a_lane_is_emptied : (server : ℕ) (lane : Lane) → server < length lanes → masks lane ≡ all_empty
       → by_server masks (set lanes server lane) ≡ cleared (by_server masks lanes) server
   a_lane_is_emptied server lane l e =
       one_lane_changes (cleared (by_server masks lanes) server) server lane l
       (λ k f. ap (λ (m : Masks). m k f) e ∙ grind (arith, nat_tests))
       (λ x k f n. grind (arith, nat_tests))
-
-  pub no_lane_is_emptied : (server : ℕ) → length lanes ≤ server → by_server masks lanes ≡ cleared (by_server masks lanes) server
-  no_lane_is_emptied server l =
-      fun_ext (λ x. fun_ext (λ k. fun_ext (λ f. ⊎_elim
-      (λ (e : x ≡ server). let z : by_server masks lanes x k f ≡ 0 = ap (λ (m : Masks). m k f) (past_the_lanes_is_none masks all_empty lanes x (omega arith)) in grind (arith, nat_tests))
-      (λ n. grind (arith, nat_tests))
-      (cases_eq x server))))
 
 every_lane_is_empty_there : {Lane : Type 0} (masks : Lane → Masks) (lanes : List Lane) (server row phase : ℕ) → ((lane : Lane) → masks lane row phase ≡ 0) → by_server masks lanes server row phase ≡ 0
 every_lane_is_empty_there masks [] server row phase h = refl

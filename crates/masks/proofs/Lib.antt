@@ -1,3 +1,4 @@
 pub mod Lanes
+pub mod Lines
 pub mod Listing
 pub mod Rows

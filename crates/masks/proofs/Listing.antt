@@ -1,21 +1,21 @@
 -- A list that names the places where messages wait: how it follows the table of masks, and that it is as long as there are messages.
 -- The length is the sum over the rows of how often their places stand in the list, by induction on the list.
-use Rattle.std.proofs.Common.{◌≡◌, ℕ, zero, suc, ◌+◌, ◌<◌, ◌≤◌, true, false, cond, ◌&&◌, eqb, ltb, List, [], ◌∷◌, ◌++◌, length, Some, sym, refl, ap, ◌∙◌, arith}
+use Rattle.std.proofs.Common.{◌≡◌, ℕ, zero, suc, ◌+◌, ◌≤◌, true, false, cond, ◌&&◌, eqb, ltb, List, [], ◌∷◌, ◌++◌, length, sym, refl, ap, ◌∙◌, arith}
 use mathlib.Core.Path.{fun_ext}
 use Rattle.std.proofs.lemmas.List.{length_push}
+use Rattle.std.specs.List.{sum_by}
+use Rattle.std.proofs.lemmas.List.Recursion.{is_sum_by}
 use Rattle.std.proofs.lemmas.Bool.{cond-true}
 use Rattle.std.proofs.lemmas.Bool.Decides.{nat_tests}
 use Rattle.counting.specs.Below.{sum}
 use Rattle.messages.specs.declared.Message.{Message}
 use Rattle.messages.specs.declared.Place.{Place}
-use Rattle.messages.specs.declared.Row.{Row}
 use Rattle.messages.specs.declared.Phase.{Phase}
 use Rattle.messages.specs.declared.Phase.TheVariants.{PreWrite, Write}
 use Rattle.messages.specs.Phases.{phase_number}
 use Rattle.messages.specs.Places.{names_a_place}
 use Rattle.messages.specs.Waiting.{entry}
-use Rattle.masks.specs.Lanes.{Gives}
-use Rattle.masks.specs.Table.{GoesOut, Masks, all_empty, is_new, joined_mask, masks_of, with_mask}
+use Rattle.masks.specs.Table.{GoesOut, Masks, all_empty, is_new, joined_mask, masks_of}
 use Rattle.masks.specs.declared.table.MaskTable.{MaskTable}
 use Rattle.servers.proofs.Members.{join_pos}
 use Rattle.masks.proofs.Rows.{no_place_has_a_mask}
@@ -83,6 +83,13 @@ at_most_two_a_row masks (suc n) = let h = at_most_two_a_row masks n in grind (ar
 at_most_512_wait : (xs : List Place) (t : MaskTable) → Names xs (masks_of t) → length xs ≤ 512
 at_most_512_wait xs t names = omega (arith, as_many_as_wait xs t names, at_most_two_a_row (masks_of t) 256)
 
+-- 1 where the place has these numbers
+abbrev pub hit : ℕ → ℕ → Place → ℕ
+hit row phase x = cond (is_named x row phase) 1 0
+
+pub times_are_a_sum : (row phase : ℕ) (xs : List Place) → times xs row phase ≡ sum_by (hit row phase) xs
+times_are_a_sum row phase = is_sum_by (λ xs. times xs row phase) (hit row phase) refl (λ x xs. refl)
+
 pub times_append : (xs ys : List Place) (row phase : ℕ) → times (xs ++ ys) row phase ≡ times xs row phase + times ys row phase
 times_append [] ys row phase = omega arith
 times_append (x ∷ xs) ys row phase = omega (arith, times_append xs ys row phase)
@@ -121,32 +128,9 @@ no_new_place_is_named xs before t row phase mask names e old = names_carry_over 
     let j = join_pos (before row phase) mask in
     grind (arith, nat_tests))
 
-pub a_named_place_waits : (x : Place) (xs ys : List Place) (masks : Masks)
-    → ((row phase : ℕ) → times ys row phase ≡ cond (is_named x row phase) 1 0 + times xs row phase)
-    → Names ys masks → 0 < masks x.row.0 (phase_number x.phase)
-a_named_place_waits x xs ys masks less names =
-    let self = a_place_names_itself x in
-    let e = less x.row.0 (phase_number x.phase) in
-    let t = names x.row.0 (phase_number x.phase) in
-    grind (arith, nat_tests)
-
 -- a message goes out, and its place is named once less
 pub a_place_is_named_no_more : (x : Place) (xs ys : List Place) (before after : Masks) (m : Message)
     → ((row phase : ℕ) → times ys row phase ≡ cond (is_named x row phase) 1 0 + times xs row phase)
     → Names ys before → GoesOut x before m after → Names xs after
 a_place_is_named_no_more x xs ys before after m less names out = names_carry_over xs _ after out.left (λ k f.
     let t = names k f in let e = less k f in grind (arith, nat_tests))
-
-pub an_empty_list_names_nothing : (masks : Masks) → Names [] masks → masks ≡ all_empty
-an_empty_list_names_nothing masks names = fun_ext (λ k. fun_ext (λ f. let n = names k f in grind (arith, nat_tests)))
-
--- the lane gives a message that went out of its table
-pub what_goes_out_is_given : (x : Place) (before after : Masks) (m : Message) → 0 < before x.row.0 (phase_number x.phase) → GoesOut x before m after → Gives before (Some m) after
-what_goes_out_is_given x before after m l out =
-    let row : m.row.0 ≡ x.row.0 = ap (λ (r : Row). r.0) out.row in
-    let phase : phase_number m.phase ≡ phase_number x.phase = ap phase_number out.phase in
-    let here : before m.row.0 (phase_number m.phase) ≡ before x.row.0 (phase_number x.phase) = ap (λ k. before k (phase_number m.phase)) row ∙ ap (before x.row.0) phase in (
-      omega (arith, l, out.whole),
-      out.whole ∙ sym here,
-      out.left ∙ sym (ap (λ k. with_mask before k (phase_number m.phase) 0) row ∙ ap (λ f. with_mask before x.row.0 f 0) phase),
-    )

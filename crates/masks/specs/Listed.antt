@@ -1,5 +1,5 @@
 -- What it means that a list names the places where messages wait, and how many there are.
-use Rattle.std.specs.Prelude.{◌≡◌, ℕ, ◌+◌, Bool, cond, ◌&&◌, List, [], ◌∷◌, ◌==◌}
+use Rattle.std.specs.Prelude.{◌≡◌, ℕ, ◌+◌, Bool, cond, ◌&&◌, List, [], ◌∷◌, Some, None, Option, ◌==◌}
 use Rattle.counting.specs.Below.{sum}
 use Rattle.messages.specs.declared.Phase.TheVariants.{PreWrite}
 use Rattle.messages.specs.declared.Place.{Place}
@@ -27,3 +27,12 @@ Names places masks = (row phase : ℕ) → times places row phase ≡ entry (mas
 -- how many messages wait in the rows below n
 abbrev pub rows_hold : Masks → ℕ → ℕ
 rows_hold masks n = sum (λ row. entry (masks row 1) + entry (masks row 2)) n
+
+-- one place less
+abbrev pub Without : List Place → Place → List Place → Type 0
+Without xs x ys = (row phase : ℕ) → times xs row phase ≡ cond (is_named x row phase) 1 0 + times ys row phase
+
+-- one place of a list goes out; none does exactly where there is none
+abbrev pub Leaves : List Place → Option Place → List Place → Type 0
+Leaves xs None ys = (xs ≡ []) × (ys ≡ xs)
+Leaves xs (Some x) ys = Without xs x ys

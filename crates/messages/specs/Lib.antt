@@ -1,3 +1,4 @@
+pub mod Errors
 pub mod Phases
 pub mod Places
 pub mod Waiting

@@ -2,6 +2,7 @@ pub mod State
 pub mod JournalChanges
 pub mod ServerChanges
 pub mod Refusals
+pub mod Outcomes
 pub mod Sending
 pub mod Operations
 pub mod Turns

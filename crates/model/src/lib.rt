@@ -1,13 +1,16 @@
 // The rules of a register on a ring of servers: the calls and what they tell. The rules themselves, runs and promises stand in specs/, their proofs in proofs/.
 #![tactic(auto)]
 
+ghost use Rattle.model.specs.Outcomes.{outcome, row_outcome};
 ghost use Rattle.model.specs.Promises.{EveryRunHasOneOrder};
 ghost use Rattle.model.specs.Refusals.{refusal_number};
 ghost use Rattle.model.specs.WorkedFacts.{WorkedFacts};
 ghost use Rattle.std.specs.Prelude.{◌≡◌};
 
+use messages::Row;
+
 // What can be asked of a shelf. Servers, clients and picks are named by number.
-#[derive(Clone, Copy)]
+#[derive(Clone, Copy, Debug, PartialEq, Eq)]
 pub enum Call<V> {
     // client, server, value
     Write(usize, usize, V),
@@ -28,7 +31,7 @@ pub enum Call<V> {
 }
 
 // Why a call is refused, by number.
-#[derive(Clone, Copy)]
+#[derive(Clone, Copy, Debug, PartialEq, Eq)]
 pub enum Refusal {
     // the ring would not have 2 to 8 servers
     BadSize = 1,
@@ -65,7 +68,7 @@ pub enum Refusal {
 }
 
 impl Refusal {
-    // Its number, 1 to 16.
+    // Its number, 1 to 16. A method and no conversion: the number is a property, and no second form of the refusal.
     pub fn number(self) -> u8
         ensures { result ≡ refusal_number self }
     {
@@ -74,11 +77,36 @@ impl Refusal {
 }
 
 // What a call tells. Accepted, write and read give their row, other calls nothing.
-#[derive(Clone, Copy)]
+// An enum of its own and no Result of an Option, since the rules name these three cases.
+#[derive(Clone, Copy, Debug, PartialEq, Eq)]
 pub enum Outcome {
     Row(usize),
     Done,
     Refused(Refusal),
+}
+
+impl From<Result<(), Refusal>> for Outcome {
+    ghost from_gives = { λ given told. told ≡ outcome given };
+
+    // What a call tells that gives nothing.
+    fn from(given: Result<(), Refusal>) -> Outcome {
+        match given {
+            Ok(()) => Outcome::Done,
+            Err(reason) => Outcome::Refused(reason),
+        }
+    }
+}
+
+impl From<Result<Row, Refusal>> for Outcome {
+    ghost from_gives = { λ given told. told ≡ row_outcome given };
+
+    // What a call tells that gives its row.
+    fn from(given: Result<Row, Refusal>) -> Outcome {
+        match given {
+            Ok(row) => Outcome::Row(usize::from(row.0)),
+            Err(reason) => Outcome::Refused(reason),
+        }
+    }
 }
 
 // Every run of a shelf, over values of any kind V, has one order.

@@ -129,7 +129,7 @@ an_open_operation_is_given_up o (Written t m) e = absurd (false≢true e)
 an_open_operation_is_given_up o (Waiting t) e = refl
 an_open_operation_is_given_up o (Told r m) e = absurd (false≢true e)
 
--- what is no write, and what has started, is not queued
+-- what is no write is not queued
 pub a_read_is_not_queued : (s : State) → is_write s ≡ false → is_queued s ≡ false
 a_read_is_not_queued Unused e = refl
 a_read_is_not_queued Queued e = absurd (true≢false e)
@@ -137,14 +137,6 @@ a_read_is_not_queued (Started t) e = refl
 a_read_is_not_queued (Written t m) e = refl
 a_read_is_not_queued (Waiting t) e = refl
 a_read_is_not_queued (Told r m) e = refl
-
-pub a_started_write_is_not_queued : (s : State) → is_started s ≡ true → is_queued s ≡ false
-a_started_write_is_not_queued Unused e = refl
-a_started_write_is_not_queued Queued e = absurd (false≢true e)
-a_started_write_is_not_queued (Started t) e = refl
-a_started_write_is_not_queued (Written t m) e = refl
-a_started_write_is_not_queued (Waiting t) e = refl
-a_started_write_is_not_queued (Told r m) e = refl
 
 -- where a started write has a number above 0, a queued write is one without a tag
 pub a_queued_write_has_no_tag : (s : State) (x : Bool) → is_numbered s ≡ true → (is_taken s && (is_write s && (not (is_answered s) && (eqb (tag_key (state_tag s)) 0 && x)))) ≡ (is_queued s && x)
@@ -165,17 +157,10 @@ an_open_write_with_a_tag_has_started (Written t m) g x n = refl
 an_open_write_with_a_tag_has_started (Waiting t) g x n = refl
 an_open_write_with_a_tag_has_started (Told r m) g x n = refl
 
--- an open read, and an open write that has started, can be answered
+-- an open read can be answered
 pub an_open_read_is_answerable : (o : Operation) (x : Bool) → (is_open o && (not (is_write o.state) && x)) ≡ true → is_answerable o ≡ true
 an_open_read_is_answerable o x e =
     let parts = and_parts (is_open o) (not (is_write o.state) && x) e in
     let read = and_parts (not (is_write o.state)) x parts.1 in
     let q = a_read_is_not_queued o.state (not-true (is_write o.state) read.0) in
-    ap (λ b. b && not (is_queued o.state)) parts.0 ∙ ap (λ b. not b) q
-
-pub an_open_started_write_is_answerable : (o : Operation) (x : Bool) → (is_open o && (is_started o.state && x)) ≡ true → is_answerable o ≡ true
-an_open_started_write_is_answerable o x e =
-    let parts = and_parts (is_open o) (is_started o.state && x) e in
-    let started = and_parts (is_started o.state) x parts.1 in
-    let q = a_started_write_is_not_queued o.state started.0 in
     ap (λ b. b && not (is_queued o.state)) parts.0 ∙ ap (λ b. not b) q

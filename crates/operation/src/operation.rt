@@ -1,12 +1,12 @@
 // An operation, the events that can reach it, and what an event makes of it.
-ghost use Rattle.operation.specs.Events.{abandoned, after, first_state, in_state};
+ghost use Rattle.operation.specs.Events.{after, first_state};
 ghost use Rattle.std.specs.Prelude.{◌≡◌};
 
 use crate::tag::Tag;
 use messages::Row;
 
 // How far an operation has come. A write is queued, then started, then answered; a read waits, then is answered.
-#[derive(Clone, Copy)]
+#[derive(Clone, Copy, Debug, PartialEq, Eq)]
 pub enum State {
     // No operation has taken this row yet.
     Unused,
@@ -23,7 +23,8 @@ pub enum State {
 }
 
 // One row of the journal: who asked, at which server, under which mark it began, and how far it has come.
-#[derive(Clone, Copy)]
+// `given_up` stands beside the state, since an operation may be given up in three states and stays in its own.
+#[derive(Clone, Copy, Debug, PartialEq, Eq)]
 pub struct Operation {
     pub(crate) client: u8,
     pub(crate) server: u8,
@@ -33,14 +34,14 @@ pub struct Operation {
 }
 
 // What a client asks for: to write, or to read once the server holds a row not below the threshold.
-#[derive(Clone, Copy)]
+#[derive(Clone, Copy, Debug, PartialEq, Eq)]
 pub enum Request {
     Write,
     Read { threshold: Tag },
 }
 
 // What can happen to an operation.
-#[derive(Clone, Copy)]
+#[derive(Clone, Copy, Debug, PartialEq, Eq)]
 pub enum Event {
     // A client begins at a server what it requests, under a mark.
     Begin {
@@ -94,32 +95,6 @@ impl Operation {
         },
     };
 
-    // The same operation in another state.
-    fn with(self, state: State) -> Operation
-        ensures { result ≡ in_state self state }
-    {
-        Operation {
-            client: self.client,
-            server: self.server,
-            begin_mark: self.begin_mark,
-            given_up: self.given_up,
-            state,
-        }
-    }
-
-    // The same operation, given up.
-    fn abandoned(self) -> Operation
-        ensures { result ≡ abandoned self }
-    {
-        Operation {
-            client: self.client,
-            server: self.server,
-            begin_mark: self.begin_mark,
-            given_up: true,
-            state: self.state,
-        }
-    }
-
     // What the event makes of the operation, by its state and the event together; an event that does not fit changes nothing.
     pub fn after(self, event: Event) -> Operation
         ensures { result ≡ after self event }
@@ -142,17 +117,23 @@ impl Operation {
                     state: request.first_state(),
                 }
             }
-            (State::Queued, Event::Start(tag)) if tag.number() > 0 => self.with(State::Started(
-                tag,
-            )),
-            (State::Started(tag), Event::Answer { mark, .. }) if !self.given_up => self.with(
-                State::Written { tag, mark },
-            ),
-            (State::Waiting { .. }, Event::Answer { row, mark }) if !self.given_up => self.with(
-                State::Told { row, mark },
-            ),
+            (State::Queued, Event::Start(tag)) if tag.number() > 0 => Operation {
+                state: State::Started(tag),
+                ..self
+            },
+            (State::Started(tag), Event::Answer { mark, .. }) if !self.given_up => Operation {
+                state: State::Written { tag, mark },
+                ..self
+            },
+            (State::Waiting { .. }, Event::Answer { row, mark }) if !self.given_up => Operation {
+                state: State::Told { row, mark },
+                ..self
+            },
             (State::Queued | State::Started(_) | State::Waiting { .. }, Event::GiveUp) =>
-                self.abandoned(),
+                Operation {
+                    given_up: true,
+                    ..self
+                },
             _ => self,
         }
     }

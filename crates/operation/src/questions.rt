@@ -59,7 +59,7 @@ impl Operation {
         self.is_open() && !self.is_write()
     }
 
-    // The mark of its answer; 0 before it was answered.
+    // The mark of its answer; 0 before it was answered. No Option, here and in the next two: the rules give every operation a mark, a tag and a row.
     pub fn answer_mark(self) -> u32
         ensures { result ≡ answer_mark self.state }
     {
@@ -116,7 +116,7 @@ impl Operation {
         }
     }
 
-    // Whether it is an open write started at the server with a tag not above the returned one.
+    // Whether it is an open write started at the server with a tag not above the returned one. Of another state than a read that is due, and with the tag on the other side.
     pub fn is_returned(self, server: u8, returned: Tag) -> bool
         ensures { result ≡ is_returned self server (tag_key returned) }
     {

@@ -1,12 +1,9 @@
 // Tags: the order in which writes take effect.
 ghost use Rattle.operation.specs.Tags.{higher_tag, tag_below, tag_key};
 ghost use Rattle.std.specs.Prelude.{◌≡◌, max, ◌==◌, nat_le, nat_lt};
-ghost use Rattle.std.proofs.Common.{rules};
-
-use search::Key;
 
 // The tag of a started write: a number and the server that started it, compared in that order.
-#[derive(Clone, Copy, PartialEq, Eq)]
+#[derive(Clone, Copy, Debug, PartialEq, Eq, PartialOrd, Ord)]
 pub struct Tag {
     number: u32,
     server: u8,
@@ -44,22 +41,23 @@ impl Tag {
     pub fn is_first(self) -> bool
         ensures { result ≡ (tag_key self == 0) }
     {
-        (self.number, self.server) == (0, 0)
+        self == Tag::FIRST
     }
 
     // Whether this tag is below the other: by number, then by server.
+    // It stands beside `<`, and the next two beside `<=` and std's `max`, since proofs of the fleet and of a server read from its clauses the tag as one number.
     pub fn is_below(self, other: Tag) -> bool
         ensures order { result ≡ tag_below self other }
         ensures keys { result ≡ nat_lt (tag_key self) (tag_key other) }
     {
-        (self.number, self.server) < (other.number, other.server)
+        self < other
     }
 
     // Whether this tag is not above the other.
     pub fn is_up_to(self, other: Tag) -> bool
         ensures { result ≡ nat_le (tag_key self) (tag_key other) }
     {
-        !other.is_below(self)
+        self <= other
     }
 
     // The higher of the two tags.
@@ -67,21 +65,6 @@ impl Tag {
         ensures higher { result ≡ higher_tag self other }
         ensures keys { tag_key result ≡ max (tag_key self) (tag_key other) }
     {
-        if self.is_below(other) { other } else { self }
-    }
-}
-
-// Tags are keys of the search for the least.
-impl Key for Tag {
-    ghost below = { tag_below };
-
-    ghost irreflexive = { Prim.search rules };
-
-    ghost transitive = { Prim.search rules };
-
-    ghost total = { Prim.search rules };
-
-    fn is_below(self, other: Tag) -> bool {
-        Tag::is_below(self, other)
+        Ord::max(self, other)
     }
 }

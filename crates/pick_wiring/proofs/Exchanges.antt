@@ -1,22 +1,12 @@
--- An exchange of two places, and the last place put where one goes out: how often each place stands in the list, and where each place comes from.
-use Rattle.std.proofs.Common.{◌≡◌, ℕ, zero, suc, ◌+◌, ◌<◌, ◌≤◌, cond, List, [], ◌∷◌, length, get_or, take, set, ap, ◌∙◌, ⊎_elim, arith}
-use lib.Seq.{take-set-lt}
-use Rattle.std.proofs.lemmas.List.{get_or-set_same, get_or-set_other, get_or-take, length-set, length-take-le, take_more, take-set}
-use Rattle.std.proofs.lemmas.Bool.{cases_eq, cases_lt}
-use Rattle.masks.specs.Listed.{is_named, no_place, times}
-use Rattle.masks.proofs.Listing.{times_append}
+-- An exchange of two places: how often each place stands in the list, and where each place comes from.
+use Rattle.std.proofs.Common.{◌≡◌, ℕ, ◌<◌, List, length, get_or, set, ap, ◌∙◌, ⊎_elim, arith}
+use Rattle.std.proofs.lemmas.List.{get_or-set_same, get_or-set_other, length-set}
+use Rattle.std.proofs.lemmas.Bool.{cases_eq}
+use Rattle.masks.specs.Listed.{no_place, times}
+use Rattle.masks.proofs.Listing.{hit}
 use Rattle.messages.specs.declared.Place.{Place}
-use Rattle.pick_wiring.specs.Piled.{Without, exchanged}
-
--- 1 where the place has these numbers
-abbrev hit : Place → ℕ → ℕ → ℕ
-hit x row phase = cond (is_named x row phase) 1 0
-
-one_for_another : (xs : List Place) (i : ℕ) (v : Place) (row phase : ℕ) → i < length xs
-    → times (set xs i v) row phase + hit (get_or xs i no_place) row phase ≡ times xs row phase + hit v row phase
-one_for_another [] i v row phase l = absurd (omega arith)
-one_for_another (x ∷ xs) zero v row phase l = omega arith
-one_for_another (x ∷ xs) (suc i) v row phase l = omega (arith, one_for_another xs i v row phase (omega arith))
+use Rattle.pick_wiring.specs.Piled.{exchanged}
+use Rattle.pick_wiring.proofs.Removal.{one_for_another}
 
 -- where each place comes from
 pub the_first_comes_from_j : (xs : List Place) (i j : ℕ) → i < length xs → j < length xs → get_or (exchanged xs i j) i no_place ≡ get_or xs j no_place
@@ -47,22 +37,4 @@ an_exchange_keeps_the_places xs i j row phase l m =
     (λ (e : j ≡ i). ap (λ k. get_or (set xs i u) k no_place) e ∙ get_or-set_same xs i u no_place l)
     (λ n. get_or-set_other xs i j u no_place n)
     (cases_eq j i) in
-    omega (arith, a, b, ap (λ x. hit x row phase) there)
-
--- the place at `at` goes out of the first n + 1, and the last one comes there
-pub the_last_fills_in : (xs : List Place) (n at : ℕ) → n < length xs → at < n + 1
-    → Without (take (n + 1) xs) (get_or xs at no_place) (take n (set xs at (get_or xs n no_place)))
-the_last_fills_in xs n at l a row phase =
-    let last = get_or xs n no_place in
-    let split = ap (λ (ys : List Place). times ys row phase) (take_more xs n no_place l) ∙ times_append (take n xs) (last ∷ []) row phase in
-    ⊎_elim
-    (λ (h : at < n).
-    let moved = ap (λ (ys : List Place). times ys row phase) (take-set-lt n xs at last h) in
-    let same = ap (λ x. hit x row phase) (get_or-take n xs at no_place h) in
-    omega (arith, split, moved, same, one_for_another (take n xs) at last row phase (omega (arith, length-take-le n xs (omega arith)))))
-    (λ (h : n ≤ at).
-    let e : at ≡ n = omega arith in
-    let kept = ap (λ k. times (take n (set xs k last)) row phase) e ∙ ap (λ (ys : List Place). times ys row phase) (take-set xs n last) in
-    let same = ap (λ k. hit (get_or xs k no_place) row phase) e in
-    omega (arith, split, kept, same))
-    (cases_lt at n)
+    omega (arith, a, b, ap (hit row phase) there)

@@ -1,3 +1,4 @@
 mod Exchanges
 mod Ranking
+mod Removal
 mod Selection

@@ -5,15 +5,14 @@ use mathlib.Core.Path.{fun_ext}
 use Rattle.std.proofs.lemmas.Bool.{cases_eq}
 use Rattle.std.proofs.lemmas.Bool.Decides.{nat_tests}
 use Rattle.counting.specs.Below.{sum}
-use Rattle.masks.specs.Listed.{Names, is_named, no_place, times}
-use Rattle.masks.specs.declared.table.MaskTable.{MaskTable}
-use Rattle.masks.specs.Table.{GoesOut, Masks, masks_of}
-use Rattle.masks.proofs.Listing.{as_many_as_wait, in_rows, messages_are_places, places_add_up}
+use Rattle.masks.specs.Listed.{Names, is_named, no_place, rows_hold, times}
+use Rattle.masks.specs.Lines.{place_of}
+use Rattle.masks.specs.Table.{Masks}
+use Rattle.masks.proofs.Listing.{in_rows, messages_are_places, places_add_up}
 use Rattle.messages.specs.declared.Phase.{Phase}
 use Rattle.messages.specs.declared.Phase.TheVariants.{PreWrite, Write}
 use Rattle.messages.specs.declared.Message.{Message}
 use Rattle.messages.specs.declared.Place.{Place}
-use Rattle.messages.specs.declared.Row.{Row}
 use Rattle.messages.specs.Phases.{phase_number}
 use Rattle.messages.specs.Places.{before, is_before, place_below}
 use Rattle.pick_wiring.specs.Order.{masks_before, places_before}
@@ -101,10 +100,9 @@ the_rank_counts_messages xs masks x n names r =
     let here : times xs row phase ≤ 1 = (let t = names row phase in grind (arith, nat_tests)) in
     omega (arith, rows, first, here, the_places_before xs x.phase row, r.low, r.high)
 
--- the message of a place that goes out at a rank is the one that the number picks
-pub a_rank_picks_a_message : (xs : List Place) (t : MaskTable) (x : Place) (m : Message) (after : Masks) (number : ℕ)
-    → Names xs (masks_of t) → Ranks xs x (number % length xs) → GoesOut x (masks_of t) m after → Picks (masks_of t) number (Some m)
-a_rank_picks_a_message xs t x m after number names r out =
-    ap (λ (k : Row). masks_before (masks_of t) k.0 (phase_number m.phase)) out.row
-    ∙ (ap (λ f. masks_before (masks_of t) x.row.0 (phase_number f)) out.phase
-    ∙ (the_rank_counts_messages xs (masks_of t) x (number % length xs) names r ∙ ap (λ n. number % n) (as_many_as_wait xs t names)))
+-- the message of a place that goes out at a rank is the one that the number picks; none is where there is no place
+pub a_rank_picks_a_message : (xs ys : List Place) (masks : Masks) (number : ℕ) (m : Option Message) → Names xs masks → length xs ≡ rows_hold masks 256
+    → Picked xs number (place_of m) ys → Picks masks number m
+a_rank_picks_a_message xs ys masks number None names long (none, left) = sym long ∙ ap length none
+a_rank_picks_a_message xs ys masks number (Some m) names long (ranks, left) =
+    the_rank_counts_messages xs masks (record { row = m.row; phase = m.phase }) (number % length xs) names ranks ∙ ap (λ n. number % n) long

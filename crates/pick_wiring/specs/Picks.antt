@@ -1,15 +1,10 @@
 -- Which message of a server a number picks.
 use Rattle.std.specs.Prelude.{◌≡◌, ℕ, ◌%◌, Some, None, Option}
 use Rattle.masks.specs.Listed.{rows_hold}
-use Rattle.masks.specs.Table.{Masks, masks_of}
+use Rattle.masks.specs.Table.{Masks}
 use Rattle.messages.specs.declared.Message.{Message}
 use Rattle.messages.specs.Phases.{phase_number}
-use Rattle.pick_wiring.specs.declared.lane.Lane.{Lane}
 use Rattle.pick_wiring.specs.Order.{masks_before}
-
--- the masks of a lane
-abbrev pub lane_masks : Lane → Masks
-lane_masks lane = masks_of lane.masks
 
 -- of what waits for one server: the message before which, by row, then phase, exactly (number mod count) messages wait; none exactly where none waits
 abbrev pub Picks : Masks → ℕ → Option Message → Type 0

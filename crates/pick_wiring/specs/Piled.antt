@@ -1,6 +1,6 @@
 -- The list of places that a pile stands for, and what its calls do to it.
-use Rattle.std.specs.Prelude.{◌≡◌, ℕ, ◌+◌, ◌%◌, ◌<◌, ◌≤◌, false, cond, List, [], length, take, Some, None, Option, slice_index_or, slice_set}
-use Rattle.masks.specs.Listed.{is_named, no_place, times}
+use Rattle.std.specs.Prelude.{◌≡◌, ℕ, ◌+◌, ◌%◌, ◌<◌, ◌≤◌, false, List, [], length, take, Some, None, Option, slice_index_or, slice_set}
+use Rattle.masks.specs.Listed.{Without, no_place, times}
 use Rattle.messages.specs.declared.Place.{Place}
 use Rattle.messages.specs.Phases.{phase_number}
 use Rattle.messages.specs.Places.{place_below}
@@ -31,10 +31,6 @@ pub record SortedFront (xs : List Place) (n : ℕ) (ys : List Place) : Type 0 wh
   pub long : length ys ≡ length xs
   pub same : (row phase : ℕ) → times ys row phase ≡ times xs row phase
   pub sorted : (a b : ℕ) → a < n → a < b → b < length xs → place_below (slice_index_or ys b no_place) (slice_index_or ys a no_place) ≡ false
-
--- one place less
-abbrev pub Without : List Place → Place → List Place → Type 0
-Without xs x ys = (row phase : ℕ) → times xs row phase ≡ cond (is_named x row phase) 1 0 + times ys row phase
 
 -- the place at `at` goes out; there is none past the end
 abbrev pub Removed : List Place → ℕ → Option Place → List Place → Type 0

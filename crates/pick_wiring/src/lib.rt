@@ -1,8 +1,6 @@
 // The pick wiring: hands out message (pick number mod count) of a server, counted from 0 by row, then phase (specs/Picks).
 #![tactic(auto)]
 
-mod lane;
-mod lane_calls;
 mod pick_wiring;
 mod pile;
 mod pile_calls;

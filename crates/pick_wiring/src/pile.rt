@@ -5,6 +5,7 @@ use masks::PLACES;
 use messages::Place;
 
 // The first `len` places of the array are the pile.
+// An array with its length: it needs no heap, and is `Copy` as a wiring is, which `ArrayVec` is not.
 #[derive(Clone, Copy)]
 pub(crate) struct Pile {
     pub(crate) places: [Place; PLACES],

@@ -1,17 +1,21 @@
-// The pile's calls: a new one, its length, one more place, the place of a rank out.
+// The pile's calls, as a store of places: a new one, its length, one more place, the place of a rank out.
 ghost use Rattle.pick_wiring.specs.Piled.{Brought, Picked, Removed, SortedFront, piled};
-ghost use Rattle.std.specs.Prelude.{◌≡◌, [], ◌∷◌, ◌++◌, length, if◌then◌else◌, nat_lt};
+ghost use Rattle.std.specs.Prelude.{refl};
 
 use crate::pile::Pile;
-use masks::{NO_PLACE, PLACES};
+use masks::{NO_PLACE, PLACES, Store};
 use messages::Place;
 use search::least;
 
-impl Pile {
+impl Store for Pile {
+    ghost listed = { piled };
+
+    ghost chosen = { Picked };
+
+    ghost none_of_nothing = { λ number. (refl, refl) };
+
     // An empty pile.
-    pub(crate) fn new() -> Pile
-        ensures { piled result ≡ [] }
-    {
+    fn new() -> Pile {
         Pile {
             places: [NO_PLACE; PLACES],
             len: 0,
@@ -19,16 +23,12 @@ impl Pile {
     }
 
     // How many places are in the pile.
-    pub(crate) fn len(&self) -> usize
-        ensures { result ≡ length (piled self.now) }
-    {
+    fn len(&self) -> usize {
         self.len
     }
 
     // One more place; a full pile stays as it is.
-    pub(crate) fn push(&mut self, place: Place)
-        ensures { piled self.new ≡ (if nat_lt (length (piled self.old)) 512 then piled self.old ++ place ∷ [] else piled self.old) }
-    {
+    fn push(&mut self, place: Place) {
         if self.len < PLACES {
             self.places[self.len] = place;
             self.len += 1;
@@ -36,9 +36,7 @@ impl Pile {
     }
 
     // Takes out the place before which number mod len others come, by row, then phase.
-    pub(crate) fn take(&mut self, number: usize) -> Option<Place>
-        ensures { Picked (piled self.old) number result (piled self.new) }
-    {
+    fn take(&mut self, number: usize) -> Option<Place> {
         if self.len == 0 {
             return None;
         }
@@ -46,8 +44,10 @@ impl Pile {
         self.sort_front(rank + 1);
         self.remove(rank)
     }
+}
 
-    // The `count` least places come to the front, in order.
+impl Pile {
+    // The `count` least places come to the front, in order. By the one search, which is to serve places as it serves tags and counts, and not by std's sort; each turn changes the pile.
     fn sort_front(&mut self, count: usize)
         ensures { SortedFront (piled self.old) count (piled self.new) }
     {

@@ -1,22 +1,20 @@
 // The pick wiring behind the interface of wirings. Besides what the interface asks, each call says what it does to the pick number, and take which message it picks.
-// Where a lane changes it is lent through a variable, `lanes`: the checker does not follow a loan through two structs with ghost fields at once.
 ghost use Rattle.messages.specs.Waiting.{Taken, cleared, nothing, put_in};
-ghost use Rattle.pick_wiring.specs.Picks.{Picks, lane_masks};
+ghost use Rattle.pick_wiring.specs.Picks.{Picks};
 ghost use Rattle.pick_wiring.specs.Wires.{pick_waits};
 ghost use Rattle.std.specs.Prelude.{◌≡◌};
-ghost use Rattle.masks.proofs.Lanes.{nothing_waits_elsewhere};
-ghost use Rattle.masks.proofs.Rows.{no_place_has_a_mask};
+ghost use Rattle.masks.proofs.Lines.{nothing_waits_off_the_places};
 
-use crate::lane::Lane;
 use crate::pick_wiring::PickWiring;
-use messages::{Message, Place};
-use servers::{SERVERS, ServerSet};
+use masks::ServerLanes;
+use messages::Message;
+use servers::ServerSet;
 use wiring::Wiring;
 
 impl Wiring for PickWiring {
     ghost waits = { pick_waits };
 
-    ghost only_at_places = { λ w server row phase h. nothing_waits_elsewhere lane_masks w.lanes server row phase w.eight (λ lane out. no_place_has_a_mask lane.masks.rows row phase lane.masks.sized out) h };
+    ghost only_at_places = { λ w. nothing_waits_off_the_places w.lanes };
 
     // The pick number is 0.
     fn new() -> PickWiring
@@ -24,7 +22,7 @@ impl Wiring for PickWiring {
         ensures number { result.number ≡ 0 }
     {
         PickWiring {
-            lanes: [Lane::new(); SERVERS],
+            lanes: ServerLanes::new(),
             number: 0,
         }
     }
@@ -34,14 +32,7 @@ impl Wiring for PickWiring {
         ensures waiting { pick_waits self.new ≡ put_in (pick_waits self.old) to row phase mask.bits }
         ensures number { self.new.number ≡ self.old.number }
     {
-        if to >= SERVERS {
-            return;
-        }
-        let Some(place) = Place::from_numbers(row, phase) else {
-            return;
-        };
-        let lanes = &mut self.lanes;
-        lanes[to].put(place, mask);
+        self.lanes.put(to, row, phase, mask);
     }
 
     // Message (pick number mod count), counted from 0 by row, then phase.
@@ -50,20 +41,12 @@ impl Wiring for PickWiring {
         ensures picked { Picks (pick_waits self.old server) self.old.number result }
         ensures number { self.new.number ≡ self.old.number }
     {
-        if server >= SERVERS {
-            return None;
-        }
-        let number = self.number;
-        let lanes = &mut self.lanes;
-        lanes[server].take(number)
+        self.lanes.take(server, self.number)
     }
 
     // As many as lie in the pile.
     fn count(&self, server: usize) -> usize {
-        if server >= SERVERS {
-            return 0;
-        }
-        self.lanes[server].count()
+        self.lanes.count(server)
     }
 
     // The pick number stays.
@@ -71,9 +54,7 @@ impl Wiring for PickWiring {
         ensures waiting { pick_waits self.new ≡ cleared (pick_waits self.old) server }
         ensures number { self.new.number ≡ self.old.number }
     {
-        if server < SERVERS {
-            self.lanes[server] = Lane::new();
-        }
+        self.lanes.clear(server);
     }
 
     // Sets the pick number.

@@ -1,16 +1,10 @@
 -- How large the amounts can be: each row counts for at most one queued write and two entries.
-use Rattle.std.proofs.Common.{ℕ, zero, suc, ◌+◌, ◌*◌, ◌≤◌, Bool, arith}
+use Rattle.std.proofs.Common.{ℕ, zero, suc, ◌+◌, ◌*◌, ◌≤◌, arith}
 use Rattle.std.proofs.lemmas.Bool.Decides.{nat_tests}
-use Rattle.counting.specs.Below.{count, sum}
+use Rattle.counting.specs.Below.{sum}
 use Rattle.messages.specs.Waiting.{Waiting, entry, waiting_count}
 use Rattle.model.specs.State.{Servers}
 use Rattle.model.specs.Questions.{forward_count}
-
--- no more numbers below n pass than there are
-pub at_most_all_pass : (test : ℕ → Bool) (n : ℕ) → count test n ≤ n
-unfolding count
-at_most_all_pass test zero = omega arith
-at_most_all_pass test (suc n) = let a = at_most_all_pass test n in grind (arith, nat_tests)
 
 -- a mask counts for one at most
 one_at_most : (mask : ℕ) → entry mask ≤ 1
@@ -27,3 +21,10 @@ few_messages_wait w p = two_for_each_row (λ r. w p r 1) (λ r. w p r 2) 256
 
 pub few_entries_are_to_forward : (v : Servers) (p : ℕ) → forward_count v p ≤ 512
 few_entries_are_to_forward v p = two_for_each_row (v.forward_prewrite p) (v.forward_write p) 256
+
+-- so few entries are at each server
+abbrev pub at_each : Servers → Waiting → ℕ → ℕ
+at_each v w p = waiting_count w p + forward_count v p
+
+pub few_at_each : (v : Servers) (w : Waiting) (p : ℕ) → at_each v w p ≤ 1024
+few_at_each v w p = let a = few_messages_wait w p in let b = few_entries_are_to_forward v p in omega arith

@@ -2,14 +2,14 @@
 use operation::Tag;
 
 // Which of the two an operation is.
-#[derive(Clone, Copy)]
+#[derive(Clone, Copy, Debug, PartialEq, Eq)]
 pub enum Kind {
     Write,
     Read,
 }
 
 // The tag and the value of the write that the operation is or that the read gave; who asked, and for what.
-#[derive(Clone, Copy)]
+#[derive(Clone, Copy, Debug, PartialEq, Eq)]
 pub struct Answer<V> {
     pub tag: Tag,
     pub client: u8,

@@ -12,7 +12,7 @@ use journal::Journal;
 use messages::{ROWS, Row};
 use model::Refusal;
 
-// The kind of the operation of the row.
+// The kind of the operation of the row. No conversion: a bool says nothing of kinds elsewhere.
 fn kind_of(journal: &Journal, row: Row) -> Kind
     ensures { writes result ≡ (view journal.now).is_write row.0 }
 {
@@ -27,7 +27,7 @@ fn kind_of(journal: &Journal, row: Row) -> Kind
 pub fn answer<V: Copy>(journal: &Journal, values: &[V], row: usize) -> Result<Answer<V>, Refusal>
     ensures { (f : Fleet) (w : Waiting) (d : V) → reply_of result ≡ answer (shelf d journal.now f w values.now) row }
 {
-    let row = Row::from_number(row).ok_or(Refusal::NotUsed)?;
+    let row = Row::try_from(row).map_err(|_| Refusal::NotUsed)?;
     if !journal.is_used(row) {
         return Err(Refusal::NotUsed);
     }

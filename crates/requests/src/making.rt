@@ -1,12 +1,12 @@
 // How a ring is made of memory that is lent to it.
 ghost use Rattle.messages.specs.Waiting.{Waiting};
 ghost use Rattle.model.specs.Operations.{MakeStep};
-ghost use Rattle.sending.specs.View.{outcome, shelf};
+ghost use Rattle.model.specs.Outcomes.{outcome};
+ghost use Rattle.sending.specs.View.{memory_shelf};
 
-use fleet::Fleet;
-use journal::Journal;
 use messages::ROWS;
 use model::Refusal;
+use sending::Memory;
 use servers::SERVERS;
 
 // A ring has at least two servers.
@@ -14,13 +14,12 @@ const FEWEST_SERVERS: usize = 2;
 
 // Makes a ring of so many servers, and stores the first value; the wiring is left as it is.
 pub fn make<V: Copy>(
-    journal: &mut Journal,
-    fleet: &mut Fleet,
+    memory: &mut Memory,
     values: &mut [V],
     size: usize,
     first: V,
 ) -> Result<(), Refusal>
-    ensures { (w : Waiting) (d : V) → MakeStep (shelf d journal.old fleet.old w values.old) size first (outcome result) (shelf d journal.new fleet.new w values.new) }
+    ensures { (w : Waiting) (d : V) → MakeStep (memory_shelf d memory.old w values.old) size first (outcome result) (memory_shelf d memory.new w values.new) }
 {
     if size < FEWEST_SERVERS || size > SERVERS {
         return Err(Refusal::BadSize);
@@ -28,8 +27,8 @@ pub fn make<V: Copy>(
     if values.len() != ROWS {
         return Err(Refusal::WrongRowCount);
     }
-    journal.reset();
-    fleet.reset(size);
+    memory.journal.reset();
+    memory.fleet.reset(size);
     values[0] = first;
     Ok(())
 }

@@ -1,10 +1,8 @@
 // The ring's memory; its calls are in calls.rt.
-use fleet::Fleet;
-use journal::Journal;
+use sending::Memory;
 
 // A ring: the journal of its operations and the table of its servers. Only the calls change it.
 #[derive(Drop)]
 pub struct Ring {
-    pub(crate) journal: Journal,
-    pub(crate) fleet: Fleet,
+    pub(crate) memory: Memory,
 }

@@ -1,7 +1,7 @@
 -- The orders of the keys that the tests search.
 use Rattle.std.specs.Prelude.{Bool, cond, ◌==◌, nat_lt}
-use Rattle.search_tests.specs.declared.Tag.{Tag}
-use Rattle.search_tests.specs.declared.Load.{Load}
+use Rattle.search_tests.specs.declared.tag.Tag.{Tag}
+use Rattle.search_tests.specs.declared.load.Load.{Load}
 
 -- by number, then server
 abbrev pub tag_below : Tag → Tag → Bool

@@ -10,7 +10,7 @@ use messages::{Phase, Row};
 use servers::ServerSet;
 use wiring::Wiring;
 
-// The server sends a message of the row to its next; it is lost if that has crashed.
+// The server sends a message of the row to its next; it is lost if that has crashed. Its parts and no `Message`: callers have them apart.
 pub fn send<W: Wiring>(
     fleet: &Fleet,
     wiring: &mut W,
@@ -23,6 +23,6 @@ pub fn send<W: Wiring>(
 {
     let next = fleet.next_of(server);
     if fleet.is_standing(next) {
-        wiring.put(next, row.0 as usize, phase.number(), mask);
+        wiring.put(next, row.0 as usize, u8::from(phase), mask);
     }
 }

@@ -1,6 +1,8 @@
 -- The server that each change leaves.
 use Rattle.std.specs.Prelude.{◌≡◌, refl, Bool, false, cond, ◌||◌, not, List, ℕ, zero, suc, ◌+◌, eqb, leb, get_or, set, replicate}
 use Rattle.std.proofs.Common.{add-one}
+use Rattle.messages.specs.declared.Phase.{Phase}
+use Rattle.messages.specs.declared.Phase.TheVariants.{PreWrite, Write}
 use Rattle.model.specs.ServerChanges.{highest_count}
 use Rattle.operation.specs.declared.tag.Tag.{Tag}
 use Rattle.operation.specs.Tags.{first_tag, higher_tag}
@@ -59,6 +61,11 @@ server_keeps_prewrite s r mask = with_cell s r (cell_keeps_prewrite (cell_at s r
 -- the mask joins that of the row's write to forward
 abbrev pub server_keeps_write : Server → ℕ → ServerSet → Server
 server_keeps_write s r mask = with_cell s r (cell_keeps_write (cell_at s r) mask)
+
+-- the mask joins that of the row's phase to forward
+abbrev pub server_keeps : Phase → Server → ℕ → ServerSet → Server
+server_keeps PreWrite = server_keeps_prewrite
+server_keeps Write = server_keeps_write
 
 -- the row's pre-write is taken out, and if the row is news the mask joins the pending one
 abbrev pub server_releases_prewrite : Bool → Server → ℕ → ServerSet → Server

@@ -1,8 +1,10 @@
 // The masks that a server keeps of one row, and their changes.
-ghost use Rattle.server.specs.Cells.{cell_keeps_prewrite, cell_keeps_write, cell_pends, cell_with_pending, cell_without_prewrite, cell_without_write, no_cell};
+ghost use Rattle.server.specs.Cells.{cell_keeps, cell_pends, cell_with_pending, cell_without, forwarded, no_cell};
 ghost use Rattle.std.specs.Prelude.{◌≡◌};
 
+use messages::Phase;
 use servers::ServerSet;
+use std::mem;
 
 // Of one row at one server: the mask under which it is pending, and those of the pre-write and the write that wait to be forwarded.
 // An empty mask means that there is none.
@@ -39,37 +41,24 @@ impl Cell {
         self.pending = mask;
     }
 
-    // The mask joins that of the pre-write to forward.
-    pub(crate) fn keep_prewrite(&mut self, mask: ServerSet)
-        ensures { self.new ≡ cell_keeps_prewrite self.old mask }
+    // The mask joins that of the pre-write or of the write to forward.
+    pub(crate) fn keep(&mut self, phase: Phase, mask: ServerSet)
+        ensures { self.new ≡ cell_keeps phase self.old mask }
     {
-        self.prewrite = self.prewrite.union(mask);
+        match phase {
+            Phase::PreWrite => self.prewrite = self.prewrite.union(mask),
+            Phase::Write => self.write = self.write.union(mask),
+        }
     }
 
-    // The mask joins that of the write to forward.
-    pub(crate) fn keep_write(&mut self, mask: ServerSet)
-        ensures { self.new ≡ cell_keeps_write self.old mask }
+    // The pre-write or the write is taken out; gives its mask.
+    pub(crate) fn take(&mut self, phase: Phase) -> ServerSet
+        ensures mask { result ≡ forwarded phase self.old }
+        ensures after { self.new ≡ cell_without phase self.old }
     {
-        self.write = self.write.union(mask);
-    }
-
-    // The pre-write is taken out; gives its mask.
-    pub(crate) fn take_prewrite(&mut self) -> ServerSet
-        ensures mask { result ≡ self.old.prewrite }
-        ensures after { self.new ≡ cell_without_prewrite self.old }
-    {
-        let mask = self.prewrite;
-        self.prewrite = ServerSet::empty();
-        mask
-    }
-
-    // The write is taken out; gives its mask.
-    pub(crate) fn take_write(&mut self) -> ServerSet
-        ensures mask { result ≡ self.old.write }
-        ensures after { self.new ≡ cell_without_write self.old }
-    {
-        let mask = self.write;
-        self.write = ServerSet::empty();
-        mask
+        match phase {
+            Phase::PreWrite => mem::replace(&mut self.prewrite, ServerSet::empty()),
+            Phase::Write => mem::replace(&mut self.write, ServerSet::empty()),
+        }
     }
 }

@@ -2,14 +2,14 @@
 ghost use Rattle.std.specs.Prelude.{◌<◌, max, ltb, cond, ◌≡◌};
 ghost use Rattle.journal.specs.View.{view};
 ghost use Rattle.operation.specs.Tags.{tag_key};
-ghost use Rattle.server.specs.Changes.{new_server, server_counted, server_holds, server_keeps_prewrite, server_keeps_write, server_notices, server_raises, server_ready, server_releases_prewrite, server_releases_write, server_starts, server_stops};
+ghost use Rattle.server.specs.Changes.{new_server, server_counted, server_holds, server_keeps, server_notices, server_raises, server_ready, server_releases_prewrite, server_releases_write, server_starts, server_stops};
 ghost use Rattle.server.specs.Servers.{cell_at};
 ghost use Rattle.servers.specs.Sets.{alone, join};
 
 use crate::cell::Cell;
 use crate::server::Server;
 use journal::Journal;
-use messages::{ROWS, Row};
+use messages::{Phase, ROWS, Row};
 use operation::Tag;
 use servers::{SERVERS, ServerSet};
 
@@ -36,9 +36,9 @@ impl Server {
         ensures { self.new ≡ server_holds self.old (view journal.now).tag row.0 }
     {
         let tag = journal.tag_of(row);
-        for k in 0..ROWS {
+        for (k, cell) in self.cells.iter_mut().enumerate() {
             if journal.tag_of(Row(k as u8)).is_up_to(tag) {
-                self.cells[k].set_pending(ServerSet::empty());
+                cell.set_pending(ServerSet::empty());
             }
         }
         self.held = row;
@@ -52,27 +52,21 @@ impl Server {
         self.returned = self.returned.max(tag);
     }
 
-    // The mask joins that of the row's pre-write to forward.
-    pub fn keep_prewrite(&mut self, row: Row, mask: ServerSet)
-        ensures { self.new ≡ server_keeps_prewrite self.old row.0 mask }
+    // The mask joins that of the row's pre-write or write to forward.
+    pub fn keep(&mut self, row: Row, phase: Phase, mask: ServerSet)
+        ensures { self.new ≡ server_keeps phase self.old row.0 mask }
     {
-        self.cells[row.0 as usize].keep_prewrite(mask);
-    }
-
-    // The mask joins that of the row's write to forward.
-    pub fn keep_write(&mut self, row: Row, mask: ServerSet)
-        ensures { self.new ≡ server_keeps_write self.old row.0 mask }
-    {
-        self.cells[row.0 as usize].keep_write(mask);
+        self.cells[row.0 as usize].keep(phase, mask);
     }
 
     // The row's pre-write is taken out. Gives its mask with this server added, which joins the pending mask if the row is news.
+    // Not one function with the release of a write: a write is never news, and its mask joins nothing.
     pub fn release_prewrite(&mut self, row: Row, server: usize, is_news: bool) -> ServerSet
         ensures mask { result.bits ≡ join (cell_at self.old row.0).prewrite.bits (alone server) }
         ensures after { self.new ≡ server_releases_prewrite is_news self.old row.0 result }
     {
         let cell = &mut self.cells[row.0 as usize];
-        let mask = cell.take_prewrite().with(server);
+        let mask = cell.take(Phase::PreWrite).with(server);
         if is_news {
             cell.join_pending(mask);
         }
@@ -84,7 +78,7 @@ impl Server {
         ensures mask { result.bits ≡ join (cell_at self.old row.0).write.bits (alone server) }
         ensures after { self.new ≡ server_releases_write self.old row.0 }
     {
-        self.cells[row.0 as usize].take_write().with(server)
+        self.cells[row.0 as usize].take(Phase::Write).with(server)
     }
 
     // The row is pending under this mask: its write starts here.

@@ -1,13 +1,14 @@
 // What is asked of one server, and of what it keeps of one row.
+ghost use Rattle.counting.specs.Below.{any, sum};
 ghost use Rattle.std.specs.Prelude.{◌<◌, ◌≤◌, ◌≡◌};
-ghost use Rattle.server.specs.Cells.{entry_count, has_entry, has_write};
+ghost use Rattle.server.specs.Cells.{entry_count, has_entry, has_write, is_pending};
 ghost use Rattle.server.specs.Servers.{cell_at, count_at};
 
 use crate::cell::Cell;
 use crate::server::Server;
 use messages::Row;
 use operation::Tag;
-use servers::{SERVERS, ServerSet};
+use servers::ServerSet;
 
 impl Cell {
     // The mask under which the row is pending.
@@ -35,8 +36,8 @@ impl Cell {
     pub fn entry_count(self) -> usize
         ensures { result ≡ entry_count self }
     {
-        let prewrites = if self.prewrite.is_empty() { 0 } else { 1 };
-        let writes = if self.has_write() { 1 } else { 0 };
+        let prewrites = usize::from(!self.prewrite.is_empty());
+        let writes = usize::from(self.has_write());
         prewrites + writes
     }
 }
@@ -75,11 +76,7 @@ impl Server {
         ensures group { group < 8 → result ≡ count_at self.now group }
         ensures no_group { 8 ≤ group → result ≡ 0 }
     {
-        if group < SERVERS {
-            self.turn_counts[group]
-        } else {
-            0
-        }
+        self.turn_counts.get(group).copied().unwrap_or(0)
     }
 
     // The masks of the row.
@@ -87,5 +84,26 @@ impl Server {
         ensures { result ≡ cell_at self.now row.0 }
     {
         self.cells[row.0 as usize]
+    }
+
+    // Whether any row is pending.
+    pub fn some_pending(&self) -> bool
+        ensures { result ≡ any (λ r. is_pending (cell_at self.now r)) 256 }
+    {
+        self.cells.iter().any(|cell| !cell.pending.is_empty())
+    }
+
+    // Whether any entry waits to be forwarded.
+    pub fn some_entry(&self) -> bool
+        ensures { result ≡ any (λ r. has_entry (cell_at self.now r)) 256 }
+    {
+        self.cells.iter().any(|cell| cell.has_entry())
+    }
+
+    // How many entries wait to be forwarded.
+    pub fn entry_count(&self) -> usize
+        ensures { result ≡ sum (λ r. entry_count (cell_at self.now r)) 256 }
+    {
+        self.cells.iter().map(|cell| cell.entry_count()).sum()
     }
 }

@@ -1,16 +1,13 @@
 -- Laws of masks.
-use Rattle.std.proofs.Common.{◌≡◌, ℕ, zero, suc, ◌+◌, ◌/◌, ◌%◌, ◌^◌, ◌<◌, ◌≤◌, min, max, true, false, ◌||◌, eqb, ◌⊎◌, sym, refl, ap, ◌∙◌, inl, inr, ⊎_elim, arith, pow_pos}
+use Rattle.std.proofs.Common.{◌≡◌, ℕ, zero, suc, ◌+◌, ◌/◌, ◌%◌, ◌^◌, ◌<◌, ◌≤◌, max, true, false, ◌||◌, eqb, ◌⊎◌, sym, refl, ap, ◌∙◌, inl, inr, ⊎_elim, arith, pow_pos}
 use native.Mathlib.Nat.{zero-div, div-div-eq-div-mul, pow-succ'}
-use lib.Bits.{bit_or, bit_and, or_shr, or_step, and_step, or_add_and, and_le_l, and_le_r}
+use lib.Bits.{bit_or, or_shr, or_step, or_add_and, and_le_l, and_le_r}
 use Rattle.std.proofs.lemmas.Bool.Decides.{nat_tests}
 use Rattle.std.proofs.lemmas.Bool.{cases_eq}
 use Rattle.servers.specs.Sets.{has, join, one}
 
 or_odd : (a b : ℕ) → bit_or a b % 2 ≡ max (a % 2) (b % 2)
 or_odd a b = let e = or_step a b in omega arith
-
-and_odd : (a b : ℕ) → bit_and a b % 2 ≡ min (a % 2) (b % 2)
-and_odd a b = let e = and_step a b in omega arith
 
 either : (a b x y c : ℕ) → x ≡ a % 2 → y ≡ b % 2 → c ≡ max x y → eqb c 1 ≡ (eqb x 1 || eqb y 1)
 either a b x y c p q r = grind (arith, nat_tests)

@@ -8,7 +8,7 @@ ghost use Rattle.std.specs.Prelude.{◌≡◌, ◌==◌};
 pub const SERVERS: usize = 8;
 
 // A set of servers: server k is in it where the bit of weight 2^k is set.
-#[derive(Clone, Copy, PartialEq, Eq)]
+#[derive(Clone, Copy, Debug, PartialEq, Eq)]
 pub struct ServerSet {
     bits: u8,
 }

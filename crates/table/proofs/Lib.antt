@@ -1,4 +1,3 @@
 pub mod Cleared
-pub mod Filling
 pub mod NewServers
 pub mod OneServer

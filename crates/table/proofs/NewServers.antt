@@ -11,7 +11,8 @@ use Rattle.server.specs.Servers.{cell_at, count_at}
 use Rattle.server.specs.Changes.{new_server}
 use Rattle.model.specs.ServerChanges.{new_servers}
 use Rattle.table.specs.Table.{no_server, server_at, servers_of}
-use Rattle.table.proofs.OneServer.{all_alike, none_past_the_end}
+use Rattle.journal.proofs.Beginnings.{get_or_replicate}
+use Rattle.table.proofs.OneServer.{none_past_the_end}
 
 -- the server keeps nothing
 record Blank (s : Server) : Type 0 where
@@ -23,7 +24,7 @@ record Blank (s : Server) : Type 0 where
 
 -- a new server keeps nothing
 a_new_server_is_blank : (standing : Bool) → Blank (new_server standing)
-a_new_server_is_blank standing = record { held = refl; returned = refl; noticed = refl; turn_count = λ j. all_alike {A = ℕ} 8 j 0; cell = λ r. all_alike 256 r no_cell }
+a_new_server_is_blank standing = record { held = refl; returned = refl; noticed = refl; turn_count = λ j. get_or_replicate {A = ℕ} 8 j 0; cell = λ r. get_or_replicate 256 r no_cell }
 
 -- what stands past the end keeps nothing
 no_server_is_blank : Blank no_server

@@ -1,7 +1,9 @@
 -- Each change of one server, in the words of the rules. The idea: the server's own part is its new one, and every other server keeps its own.
-use Rattle.std.proofs.Common.{◌≡◌, ℕ, zero, suc, ◌<◌, ◌≤◌, max, Bool, true, false, cond, eqb, List, length, get_or, set, replicate, refl, arith}
+use Rattle.std.proofs.Common.{◌≡◌, ℕ, ◌<◌, ◌≤◌, max, Bool, true, false, cond, eqb, List, length, get_or, set, replicate, arith}
 use Rattle.std.proofs.lemmas.List.{get_or-set_same, get_or-set_other, get_or_past}
 use Rattle.std.proofs.lemmas.Bool.Decides.{nat_tests}
+use Rattle.messages.specs.declared.Phase.{Phase}
+use Rattle.messages.specs.declared.Phase.TheVariants.{PreWrite, Write}
 use Rattle.servers.specs.declared.ServerSet.{ServerSet}
 use Rattle.servers.specs.Sets.{has, join, one}
 use Rattle.servers.proofs.Members.{has_join, has_only, has_none}
@@ -10,18 +12,13 @@ use Rattle.operation.specs.Tags.{tag_key}
 use Rattle.server.specs.declared.cell.Cell.{Cell}
 use Rattle.server.specs.declared.server.Server.{Server}
 use Rattle.server.specs.Cells.{no_cell}
+use Rattle.journal.proofs.Beginnings.{get_or_replicate}
 use Rattle.server.specs.Servers.{cell_at, count_at}
-use Rattle.server.specs.Changes.{server_raises, server_keeps_prewrite, server_keeps_write, server_releases_prewrite, server_releases_write, server_starts, server_counted, server_holds, server_stops, server_notices}
+use Rattle.server.specs.Changes.{server_raises, server_keeps, server_releases_prewrite, server_releases_write, server_starts, server_counted, server_holds, server_stops, server_notices}
 use Rattle.model.specs.State.{Servers}
-use Rattle.model.specs.ServerChanges.{servers_raised, servers_kept_prewrite, servers_kept_write, servers_released_prewrite_if, servers_released_write, servers_started, servers_counted_if, servers_crashed, servers_held_if, servers_noticed}
+use Rattle.model.specs.ServerChanges.{servers_raised, servers_released_prewrite_if, servers_released_write, servers_started, servers_counted_if, servers_crashed, servers_held_if, servers_noticed}
 use Rattle.table.proofs.Cleared.{the_first_are_cleared}
-use Rattle.table.specs.Table.{server_at, no_server, cells_of, counts_of, servers_of}
-
--- everywhere in a row of equal things, and past its end, is that thing
-pub all_alike : {A : Type 0} (n i : ℕ) (a : A) → get_or (replicate n a) i a ≡ a
-all_alike zero i a = refl
-all_alike (suc n) zero a = refl
-all_alike (suc n) (suc i) a = all_alike n i a
+use Rattle.table.specs.Table.{server_at, no_server, cells_of, counts_of, servers_kept, servers_of}
 
 -- a number above 7 names no server
 pub none_past_the_end : (l : List Server) (p : ℕ) → length l ≡ 8 → 8 ≤ p → server_at l p ≡ no_server
@@ -91,7 +88,7 @@ module _ (l : List Server) (p : ℕ) (in_it : p < length l) where
   pub one_counts : (new : Server) (some_entry : Bool) (j : ℕ) → j < 8 → length (counts_of l p) ≡ 8 → new ≡ server_counted some_entry (server_at l p) j
       → servers_of (set l p new) ≡ servers_counted_if some_entry (servers_of l) p j
   one_counts new some_entry j low sized is =
-      let zeros = λ (i : ℕ). all_alike {A = ℕ} 8 i 0 in
+      let zeros = λ (i : ℕ). get_or_replicate {A = ℕ} 8 i 0 in
       one_server_changes new _ (grind (arith, nat_tests, get_or-set_same, get_or-set_other, zeros))
 
   -- it stays as it was
@@ -106,7 +103,7 @@ module _ (l : List Server) (p : ℕ) (in_it : p < length l) where
 
   -- it stops
   pub one_stops : (new : Server) → new ≡ server_stops (server_at l p) → servers_of (set l p new) ≡ servers_crashed (servers_of l) p
-  one_stops new is = one_stops_with (replicate 256 no_cell) (λ r. all_alike 256 r no_cell) new is
+  one_stops new is = one_stops_with (replicate 256 no_cell) (λ r. get_or_replicate 256 r no_cell) new is
 
   -- it notices a crash
   pub one_notices : (new : Server) (x : ℕ) → x < 8 → new ≡ server_notices (server_at l p) x → servers_of (set l p new) ≡ servers_noticed (servers_of l) p x
@@ -117,13 +114,10 @@ module _ (l : List Server) (p : ℕ) (in_it : p < length l) where
   one_notices_none new x high is = one_server_changes new _ (grind (arith, nat_tests, has_join, has_none))
 
   module _ (r : ℕ) (row : r < length (cells_of l p)) (new : Server) where
-    -- it keeps a pre-write
-    pub one_keeps_prewrite : (mask : ServerSet) → new ≡ server_keeps_prewrite (server_at l p) r mask → servers_of (set l p new) ≡ servers_kept_prewrite (servers_of l) p r mask.bits
-    one_keeps_prewrite mask is = one_server_changes new _ (grind (arith, nat_tests, get_or-set_same, get_or-set_other))
-
-    -- it keeps a write
-    pub one_keeps_write : (mask : ServerSet) → new ≡ server_keeps_write (server_at l p) r mask → servers_of (set l p new) ≡ servers_kept_write (servers_of l) p r mask.bits
-    one_keeps_write mask is = one_server_changes new _ (grind (arith, nat_tests, get_or-set_same, get_or-set_other))
+    -- it keeps a pre-write or a write
+    pub one_keeps : (phase : Phase) (mask : ServerSet) → new ≡ server_keeps phase (server_at l p) r mask → servers_of (set l p new) ≡ servers_kept phase (servers_of l) p r mask.bits
+    one_keeps PreWrite mask is = one_server_changes new _ (grind (arith, nat_tests, get_or-set_same, get_or-set_other))
+    one_keeps Write mask is = one_server_changes new _ (grind (arith, nat_tests, get_or-set_same, get_or-set_other))
 
     -- its pre-write leaves, and is pending if it is news
     pub one_releases_prewrite : (is_news : Bool) (mask : ServerSet) → mask.bits ≡ join (cell_at (server_at l p) r).prewrite.bits (one p) → new ≡ server_releases_prewrite is_news (server_at l p) r mask

@@ -1,11 +1,14 @@
 -- The servers of a table by number, and what they keep in the words of the rules.
 use Rattle.std.specs.Prelude.{ℕ, false, List, [], slice_index_or}
+use Rattle.messages.specs.declared.Phase.{Phase}
+use Rattle.messages.specs.declared.Phase.TheVariants.{PreWrite, Write}
 use Rattle.operation.specs.Tags.{first_tag, tag_key}
 use Rattle.server.specs.declared.cell.Cell.{Cell}
 use Rattle.server.specs.declared.server.Server.{Server}
 use Rattle.server.specs.Cells.{no_set}
 use Rattle.server.specs.Servers.{cell_at, count_at}
 use Rattle.servers.specs.Sets.{has}
+use Rattle.model.specs.ServerChanges.{servers_kept_prewrite, servers_kept_write}
 use Rattle.model.specs.State.{Servers}
 
 -- past the table's end: no server stands, and nothing is kept
@@ -36,3 +39,8 @@ servers_of list = record {
   forward_prewrite = λ p r. (cell_at (server_at list p) r).prewrite.bits;
   forward_write = λ p r. (cell_at (server_at list p) r).write.bits;
 }
+
+-- the mask joins that of the row's phase that p is to forward, in the words of the rules
+abbrev pub servers_kept : Phase → Servers → ℕ → ℕ → ℕ → Servers
+servers_kept PreWrite = servers_kept_prewrite
+servers_kept Write = servers_kept_write

@@ -7,15 +7,12 @@ ghost use Rattle.table.specs.Table.{server_at};
 
 use server::Server;
 use servers::SERVERS;
+use std::array;
 
 // A table of new servers, of which those below the size stand.
 pub fn new_servers(size: usize) -> [Server; SERVERS]
     ensures sized { length result ≡ 8 }
     ensures all_new { (p : ℕ) → p < 8 → server_at result p ≡ new_server (nat_lt p size) }
 {
-    let mut list = [Server::new(false); SERVERS];
-    for server in 0..SERVERS {
-        list[server] = Server::new(server < size);
-    }
-    list
+    array::from_fn(|server| Server::new(server < size))
 }

@@ -18,6 +18,7 @@ pub trait Wiring: Sized {
 
     // A message waits for a server; if one of its row and phase waits there already, their masks are joined.
     // It never refuses: numbers that are no place, or an empty mask, put nothing.
+    // Row and phase are plain numbers, since a `Row` and a `Phase` would ask more of the caller.
     fn put(&mut self, to: usize, row: usize, phase: u8, mask: ServerSet)
         ensures { waits self.new ≡ put_in (waits self.old) to row phase mask.bits };
 

@@ -4,7 +4,7 @@
 ghost use Rattle.wiring_tests.specs.Same.{same};
 ghost use Rattle.std.specs.Prelude.{◌≡◌};
 
-use messages::{Message, Phase};
+use messages::{Message, Phase, Row};
 use servers::ServerSet;
 
 #[cfg(test)]
@@ -14,8 +14,10 @@ mod tests;
 pub fn took(taken: Option<Message>, row: u8, phase: Phase, mask: ServerSet) -> bool
     ensures { result ≡ same taken row phase mask }
 {
-    match taken {
-        Some(m) => m.row.0 == row && m.phase.number() == phase.number() && m.mask == mask,
-        None => false,
-    }
+    taken
+        == Some(Message {
+            row: Row(row),
+            phase,
+            mask,
+        })
 }

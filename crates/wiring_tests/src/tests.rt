@@ -1,4 +1,5 @@
 // What every wiring does, tried on both, and which message each of them hands out.
+// What both do is one generic function, and a test of each, since a test has no type parameter.
 use crate::took;
 use line_wiring::LineWiring;
 use messages::{Phase, ROWS};
@@ -7,6 +8,7 @@ use servers::{SERVERS, ServerSet};
 use std::process::Abort;
 use wiring::Wiring;
 
+// The phases by their numbers, as put takes them.
 const PRE_WRITE: u8 = 1;
 
 const WRITE: u8 = 2;
@@ -123,7 +125,7 @@ fn a_pick_has_every_place(rt: HostRuntime) {
 // A joined message keeps its place in the line.
 #[test]
 fn a_line_hands_out_by_arrival(rt: HostRuntime) {
-    let mut w: LineWiring = <LineWiring as Wiring>::new();
+    let mut w = LineWiring::new();
     w.put(6, 9, WRITE, ServerSet::only(0));
     w.put(6, 3, PRE_WRITE, ServerSet::only(1));
     w.put(6, 9, PRE_WRITE, ServerSet::only(2));
@@ -139,7 +141,7 @@ fn a_line_hands_out_by_arrival(rt: HostRuntime) {
 // A line that was half taken goes on round the end of its buffer.
 #[test]
 fn a_line_goes_round(rt: HostRuntime) {
-    let mut w: LineWiring = <LineWiring as Wiring>::new();
+    let mut w = LineWiring::new();
     for row in 0..ROWS {
         w.put(0, row, PRE_WRITE, ServerSet::only(1));
     }
@@ -158,7 +160,7 @@ fn a_line_goes_round(rt: HostRuntime) {
 
 // Three wait: a write of row 1, then a pre-write and a write of row 2.
 fn three_wait() -> PickWiring {
-    let mut w: PickWiring = <PickWiring as Wiring>::new();
+    let mut w = PickWiring::new();
     w.put(4, 2, WRITE, ServerSet::only(0));
     w.put(4, 2, PRE_WRITE, ServerSet::only(1));
     w.put(4, 1, WRITE, ServerSet::only(2));
@@ -191,7 +193,7 @@ fn the_first_pick_is_0(rt: HostRuntime) {
 // Taken one by one with the pick number 0, all messages come by row, then phase.
 #[test]
 fn a_pick_of_0_goes_through_all(rt: HostRuntime) {
-    let mut w: PickWiring = <PickWiring as Wiring>::new();
+    let mut w = PickWiring::new();
     fill(&mut w);
     for row in 0..=255u8 {
         assert!(rt; took(w.take(5), row, Phase::PreWrite, ServerSet::only(1)));

@@ -1,13 +1,12 @@
-use Rattle.std.proofs.Common.{rules}
-use Rattle.counting.specs.Below.{all_none, all_more}
+use Rattle.std.proofs.Common.{rules, tests, ◌||◌, eqb, refl, ◌∙◌, arith}
+use Rattle.std.proofs.lemmas.Iterator.{YieldsList-from_range}
+use Rattle.std.proofs.lemmas.Iterator.Search.{all_from_yields_List}
+use Rattle.servers.specs.Sets.{has}
 use Rattle.around.proofs.Rounds.{covers_is_all}
 use Rattle.around.proofs.covers.Goals as goal
 
-pub loop-other-init : goal.loop-other-init
-loop-other-init c = search (rules, all_none)
-
-pub loop-other-preserved : goal.loop-other-preserved
-loop-other-preserved c = search (rules, all_more)
-
 pub returns : goal.returns
-returns c = search (rules, covers_is_all)
+returns c =
+    all_from_yields_List (λ q. has c.args.noticed.bits q || (eqb q c.args.server || has c.args.mask.bits q)) _ _ c.all.result c.all.ensures.ran
+    (YieldsList-from_range 0 c.args.size c.args.size refl (omega arith)) (λ q answer f says. search (rules, tests))
+    ∙ covers_is_all c.args.size (has c.args.noticed.bits) c.args.server c.args.mask.bits

@@ -1,25 +1,20 @@
-use Rattle.std.proofs.Common.{◌≡◌, ℕ, ◌+◌, length, sym, ◌∙◌, subst, arith}
-use Rattle.search.specs.Order.{LeastOf}
-use Rattle.search.proofs.Passes.{one_key_is_the_least, the_best_stays, the_new_key_is_best}
+use Rattle.std.proofs.Common.{◌≡◌, ◌+◌, sym, ap, ◌∙◌, subst}
+use Rattle.std.specs.List.{IsFirstBest}
+use Rattle.std.specs.Ordering.{is_lt, is_some_and}
+use Rattle.std.proofs.lemmas.List.MinMax.{ranks_by, IsFirstBest-keeps, IsFirstBest-takes}
 use Rattle.search.proofs.least.Goals as goal
-use Rattle.search.proofs.least.Goals.{then-is_below, else-is_below}
-
-pub loop-i-init : goal.loop-i-init
-loop-i-init g c = one_key_is_the_least g.K.Key.below c.args.keys.now g.met.K.Key.irreflexive
 
 pub loop-i-preserved : goal.loop-i-preserved
 loop-i-preserved g c =
-    let P : ℕ → Type 0 = λ b. LeastOf g.K.Key.below c.args.keys.now (c.loop-i.i + 1) b in
-    let law = g.met.K.Key in
-    elim c.if-is_below.branch [
-      | then-is_below w ↦ subst P (sym w.best-is) (the_new_key_is_best g.K.Key.below c.args.keys.now c.loop-i.i c.loop-i.best c.index-keys-i.result c.index-keys-best.result
-          law.irreflexive law.transitive law.total c.loop-i-test.true c.index-keys-i.is c.index-keys-best.is c.loop-i.invariant (sym c.is_below.ensures ∙ w.if-is_below.true))
-      | else-is_below w ↦ subst P (sym w.best-is) (the_best_stays g.K.Key.below c.args.keys.now c.loop-i.i c.loop-i.best c.index-keys-i.result c.index-keys-best.result
-          c.loop-i-test.true c.index-keys-i.is c.index-keys-best.is c.loop-i.invariant (sym c.is_below.ensures ∙ w.if-is_below.false))
+    let order = ranks_by g.met.K.Ord.total (λ k. k) in
+    let keys = c.args.keys.now in
+    let i = c.loop-i.i in
+    let best = c.loop-i.best in
+    let x = c.index-keys-i.result in
+    let y = c.index-keys-best.result in
+    let P = IsFirstBest (λ a b. is_lt (g.K.Ord.cmp a b)) keys (i + 1) in
+    let answer : c.lt.result ≡ is_lt (g.K.Ord.cmp x y) = c.lt.ensures ∙ ap (is_some_and is_lt) (g.met.K.Ord.matches_partial_cmp x y) in
+    elim c.if-lt.branch [
+      | goal.then-lt w ↦ subst P (sym w.best-is) (IsFirstBest-takes order keys i best x y c.loop-i.invariant c.loop-i-test.true c.index-keys-i.is c.index-keys-best.is (sym answer ∙ w.if-lt.true))
+      | goal.else-lt w ↦ subst P (sym w.best-is) (IsFirstBest-keeps order keys i best x y c.loop-i.invariant c.loop-i-test.true c.index-keys-i.is c.index-keys-best.is (sym answer ∙ w.if-lt.false))
     ]
-
-pub returns : goal.returns
-returns g c =
-    let P : ℕ → Type 0 = λ n. LeastOf g.K.Key.below c.args.keys.now n c.loop-i.best in
-    let e : c.loop-i.i ≡ length c.args.keys.now = omega (arith, c.if-keys-eq0.false, c.loop-i.auto.i-end) in
-    subst P e c.loop-i.invariant

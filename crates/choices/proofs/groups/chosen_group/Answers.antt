@@ -1,25 +1,18 @@
-use Rattle.std.proofs.Common.{◌≡◌, get_or, rules}
+-- The least of the keys of the groups is that of the group whose turn it is.
+use Rattle.std.proofs.Common.{subst}
 use Rattle.journal.specs.View.{view}
 use Rattle.model.specs.Turns.{group_waits}
 use Rattle.fleet.specs.View.{servers, state}
-use Rattle.choices.specs.declared.keys.Candidate.TheVariants.{Absent, Waits}
-use Rattle.choices.proofs.Ranks.{keys_of_what_waits, the_group_found_is_least, where_none_is_found_no_group_waits}
+use Rattle.choices.specs.Keys.{LeastWaiting}
+use Rattle.choices.proofs.Ordered.{groups_go_in_order}
+use Rattle.choices.proofs.Ranks.{keys_of_what_waits, the_group_found_is_least}
 use Rattle.choices.proofs.groups.chosen_group.Goals as goal
 
-pub returns-in-Waits : goal.returns-in-Waits
-returns-in-Waits c =
+pub returns : goal.returns
+returns c =
     let fleet = c.args.fleet.now in
     let waits = group_waits (state fleet (view c.args.journal.now)) c.args.server in
-    let keys = c.group_keys-keys.result in
-    let is = keys_of_what_waits keys (servers fleet) c.args.server _ _ _ waits c.group_keys-keys.ensures.keys c.groups_waiting-groups.ensures c.some_entry.ensures in
-    let at : get_or keys c.in_ok-place.place Absent ≡ Waits c.in-Waits.field-0 = search rules in
-    the_group_found_is_least keys waits _ c.group_keys-keys.ensures.sized is c.in_ok-place.place c.in_ok-place.ensures c.in-Waits.field-0 at
-
-pub returns-in-Absent : goal.returns-in-Absent
-returns-in-Absent c =
-    let fleet = c.args.fleet.now in
-    let waits = group_waits (state fleet (view c.args.journal.now)) c.args.server in
-    let keys = c.group_keys-keys.result in
-    let is = keys_of_what_waits keys (servers fleet) c.args.server _ _ _ waits c.group_keys-keys.ensures.keys c.groups_waiting-groups.ensures c.some_entry.ensures in
-    let at : get_or keys c.in_ok-place.place Absent ≡ Absent = search rules in
-    where_none_is_found_no_group_waits keys waits _ c.group_keys-keys.ensures.sized is c.in_ok-place.place c.in_ok-place.ensures at
+    let keys = c.group_keys-keys in
+    let is = keys_of_what_waits keys.result (servers fleet) c.args.server _ _ _ waits keys.ensures.keys c.groups_waiting-groups.ensures c.some_entry.ensures in
+    the_group_found_is_least keys.result waits _ keys.ensures.sized is c.least_waiting.result
+    (subst (λ below. LeastWaiting below keys.result c.least_waiting.result) groups_go_in_order c.least_waiting.ensures)

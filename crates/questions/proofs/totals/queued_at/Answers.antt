@@ -2,10 +2,10 @@
 use Rattle.std.proofs.Common.{arith, rules}
 use Rattle.model.specs.State.{is_queued}
 use Rattle.journal.specs.View.{view}
-use Rattle.questions.proofs.Bounds.{at_most_all_pass}
+use Rattle.counting.proofs.Counts.{a_count_is_at_most_its_bound}
 use Rattle.questions.proofs.totals.queued_at.Goals as goal
 
 pub returns : goal.returns
 returns c =
-    let all = at_most_all_pass (is_queued (view c.args.journal.now) c.args.server) 256 in
+    let all = a_count_is_at_most_its_bound (is_queued (view c.args.journal.now) c.args.server) 256 in
     record { is = search rules; few = omega (arith, c.queued_count.ensures) }

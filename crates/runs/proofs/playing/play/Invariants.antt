@@ -4,9 +4,9 @@ use Rattle.ring.specs.View.{ring_shelf}
 use Rattle.runs.proofs.SoFar.{SoFar}
 use Rattle.runs.proofs.playing.play.Given as goal
 
--- the first i calls are played
-abbrev pub invariant-loop-i : goal.invariant-loop-i
-invariant-loop-i g l =
+-- the calls before the next one are played
+abbrev pub invariant-loop-call : goal.invariant-loop-call
+invariant-loop-call g l =
     let waits = g.W.Wiring.waits in
-    (length (vec_items l.outcomes) ≡ l.i)
+    (length (vec_items l.outcomes) ≡ l.call-index)
     × ((d : g.row.V.Denot) → SoFar (ring_shelf d l.initial.ring (waits l.initial.wiring) (vec_items l.initial.values)) l.calls (vec_items l.outcomes) (ring_shelf d l.ring (waits l.wiring) (vec_items l.values)))

@@ -2,7 +2,7 @@
 use Rattle.std.proofs.Common.{◌<◌, sym, ap, ◌∙◌, rules}
 use Rattle.messages.specs.Waiting.{put_in}
 use Rattle.sending.specs.View.{state}
-use Rattle.sending.proofs.Posting.{put_is_sent, lost_is_sent, who_stands_has_a_place}
+use Rattle.sending.proofs.Posting.{put_is_sent, who_stands_has_a_place}
 use Rattle.sending.proofs.outgoing.send.Goals as goal
 
 pub returns-then-is_standing : goal.returns-then-is_standing
@@ -15,9 +15,4 @@ returns-then-is_standing g c =
     let room : c.args.row.0 < 256 = search rules in
     λ j. put_is_sent (state j fleet before) c.args.server q c.args.row.0 c.args.phase c.args.mask.bits c.next_of-next.ensures.is
     stands (who_stands_has_a_place fleet q stands) room (waits c.put.new.self)
-    (c.put.ensures ∙ ap (λ n. put_in before q c.args.row.0 n c.args.mask.bits) c.number.ensures)
-
-pub returns-else-is_standing : goal.returns-else-is_standing
-returns-else-is_standing g c = λ j.
-    lost_is_sent (state j c.args.fleet.now (g.W.Wiring.waits c.args.wiring.now)) c.args.server c.next_of-next.result c.args.row.0 c.args.phase c.args.mask.bits
-    c.next_of-next.ensures.is (sym c.if-is_standing.ensures)
+    (c.put.ensures ∙ ap (λ n. put_in before q c.args.row.0 n c.args.mask.bits) c.from.ensures)

@@ -1,9 +1,19 @@
-use Rattle.std.proofs.Common.{rules}
-use Rattle.counting.specs.Below.{top_none, top_more}
+use Rattle.std.proofs.Common.{rules, tests, ◌∙◌, ◌+◌, ap, max}
+use Rattle.std.proofs.lemmas.Iterator.Consumers.{fold_from_yields_List, YieldsList-from_filter, YieldsList-at}
+use Rattle.counting.specs.Below.{top}
+use Rattle.journal.specs.View.{view}
+use Rattle.model.specs.State.{is_pending, tag_number}
+use Rattle.fleet.specs.View.{servers}
+use Rattle.fleet.proofs.Rows.{the_rows_in_order, higher_row, highest_row_is_top}
 use Rattle.fleet.proofs.fleet.Fleet.highest_row.Goals as goal
 
-pub loop-k-init : goal.loop-k-init
-loop-k-init c = search (rules, top_none)
-
-pub loop-k-preserved : goal.loop-k-preserved
-loop-k-preserved c = search (rules, top_more)
+pub returns : goal.returns
+returns c =
+    let pends = is_pending (servers c.args.self.now) c.args.server in
+    let tag = (view c.args.journal.now).tag in
+    ap (λ n. 1 + n) (ap (λ r. tag_number (tag r.0)) (fold_from_yields_List _ (higher_row tag) c.held.result c.fold.result c.fold.ensures.ran
+    (YieldsList-from_filter _ (λ r. pends r.0) (YieldsList-at c.filter.ensures.source
+    (the_rows_in_order _ c.map.ensures.source c.map.ensures.closure (λ x r q k. search (rules, tests))))
+    c.filter.ensures.closure (λ x b q k. search (rules, tests)))
+    (λ a x b q k. search (rules, tests)))
+    ∙ (highest_row_is_top pends tag c.held.result 256 ∙ ap (λ h. max (tag_number (tag h)) (top pends (λ k. tag_number (tag k)) 256)) c.held.ensures))

@@ -1,9 +1,8 @@
 use Rattle.std.proofs.Common.{rules}
-use Rattle.counting.specs.Below.{any_none, any_more}
+use Rattle.fleet.proofs.PastTheEnd.{nothing_is_pending}
 use Rattle.fleet.proofs.fleet.Fleet.some_pending.Goals as goal
 
-pub loop-k-init : goal.loop-k-init
-loop-k-init c = search (rules, any_none)
-
-pub loop-k-preserved : goal.loop-k-preserved
-loop-k-preserved c = search (rules, any_more)
+pub returns : goal.returns
+returns c =
+    let past = nothing_is_pending c.args.self.now.list c.args.server c.args.self.now.sized in
+    search rules

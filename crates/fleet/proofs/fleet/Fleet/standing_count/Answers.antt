@@ -1,9 +1,13 @@
-use Rattle.std.proofs.Common.{rules}
-use Rattle.counting.specs.Below.{count_none, count_more}
+use Rattle.std.proofs.Common.{rules, tests, ◌∙◌, arith}
+use Rattle.std.proofs.lemmas.Iterator.{YieldsList-from_range}
+use Rattle.std.proofs.lemmas.Iterator.Consumers.{count_from_yields_List, YieldsList-from_filter}
+use Rattle.counting.proofs.Ranges.{count_of_range}
+use Rattle.fleet.specs.View.{servers}
 use Rattle.fleet.proofs.fleet.Fleet.standing_count.Goals as goal
 
-pub loop-server-init : goal.loop-server-init
-loop-server-init c = search (rules, count_none)
-
-pub loop-server-preserved : goal.loop-server-preserved
-loop-server-preserved c = search (rules, count_more)
+pub returns : goal.returns
+returns c =
+    let size = c.args.self.now.size in
+    let stands = (servers c.args.self.now).standing in
+    count_from_yields_List c.filter.result _ c.count.ensures.ran (YieldsList-from_filter _ stands (YieldsList-from_range 0 size size c.filter.ensures.source (omega arith)) c.filter.ensures.closure (λ x b q k. search (rules, tests)))
+    ∙ count_of_range stands size

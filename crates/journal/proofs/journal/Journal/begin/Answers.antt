@@ -14,11 +14,8 @@ invariant_of-self c =
     let room : c.args.self.now.used < 256 = omega arith in
     owed _ _ _ (facts_after_begin _ _ _ (facts_of c.args.self.now) room c.args.client c.args.server c.args.request c.after.result c.after.ensures)
 
-pub returns : goal.returns
-returns c =
+pub returns-clause-after : goal.returns-clause-after
+returns-clause-after c =
     let room : c.args.self.now.used < 256 = omega arith in
-    record {
-      row = sym (cond-false _ _ _ (lt-leb 256 c.args.self.now.used room));
-      after = view_after_begin _ _ _ (facts_of c.args.self.now) room c.args.client c.args.server c.args.request c.after.result c.after.ensures
-          ∙ sym (cond-false _ _ _ (lt-leb 256 c.args.self.now.used room));
-    }
+    view_after_begin _ _ _ (facts_of c.args.self.now) room c.args.client c.args.server c.args.request c.after.result c.after.ensures
+    ∙ sym (cond-false _ _ _ (lt-leb 256 c.args.self.now.used room))

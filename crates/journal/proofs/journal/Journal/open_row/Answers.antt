@@ -1,28 +1,11 @@
-use Rattle.std.proofs.Common.{◌≡◌, ℕ, ◌<◌, Bool, false, sym, ◌∙◌, arith, below_more}
-use Rattle.model.specs.State.{is_open_of}
-use Rattle.journal.specs.View.{view}
-use Rattle.journal.proofs.Facts.{facts_of}
-use Rattle.journal.proofs.Same.{open_of_is_open_of, none_open_of_past_the_used_rows}
-use Rattle.journal.proofs.Searches.{the_first_is_the_least, one_that_passes_is_some, none_is_found, none_passes, none_at_all}
+use Rattle.std.proofs.Common.{rules, ap, ◌∙◌}
+use Rattle.counting.specs.Below.{least}
+use Rattle.operation.specs.Parts.{is_open_of}
+use Rattle.journal.proofs.Same.{open_of_agrees}
+use Rattle.journal.proofs.Searches.{a_row_is_found}
 use Rattle.journal.proofs.journal.Journal.open_row.Goals as goal
-
-pub loop-k-init : goal.loop-k-init
-loop-k-init c = λ j l. absurd (omega arith)
-
-pub loop-k-preserved : goal.loop-k-preserved
-loop-k-preserved c = below_more _ _ c.loop-k.invariant (open_of_is_open_of _ _ _ (facts_of c.args.self.now) c.loop-k.k c.args.client ∙ sym c.if-is_open_of.ensures)
-
-pub returns-then-is_open_of : goal.returns-then-is_open_of
-returns-then-is_open_of c =
-    let test : ℕ → Bool = is_open_of (view c.args.self.now) c.args.client in
-    let low : c.loop-k.k < 256 = omega (arith, c.loop-k-test.true, c.args.self.now.room) in
-    let passes = open_of_is_open_of _ _ _ (facts_of c.args.self.now) c.loop-k.k c.args.client ∙ sym c.if-is_open_of.ensures in
-    record { found = sym (the_first_is_the_least test 256 c.loop-k.k low passes c.loop-k.invariant); some = sym (one_that_passes_is_some test 256 c.loop-k.k low passes) }
 
 pub returns : goal.returns
 returns c =
-    let test : ℕ → Bool = is_open_of (view c.args.self.now) c.args.client in
-    let end : c.loop-k.k ≡ c.args.self.now.used = omega arith in
-    let never : (j : ℕ) → test j ≡ false =
-    none_at_all test c.args.self.now.used (rw end at c.loop-k.invariant) (λ j past. none_open_of_past_the_used_rows _ c.args.self.now.mark _ j past c.args.client) in
-    record { found = sym (none_is_found test (λ k. k) 256 (λ j l. never j)); some = sym (none_passes test 256 (λ j l. never j)) }
+    let found = c.first_row.ensures (λ o. is_open_of o c.args.client) (λ o answer says. search rules) ∙ ap (λ test. least test (λ k. k) 256) (open_of_agrees c.args.self.now c.args.client) in
+    record { found = found; some = a_row_is_found c.first_row.result _ 256 found }

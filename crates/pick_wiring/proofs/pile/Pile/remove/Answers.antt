@@ -2,8 +2,8 @@
 use Rattle.std.proofs.Common.{◌≡◌, ◌+◌, ◌-◌, ◌<◌, get_or, take, set, sym, subst, arith}
 use Rattle.std.proofs.lemmas.List.{get_or-take, length-take-le}
 use Rattle.masks.specs.Listed.{no_place}
-use Rattle.pick_wiring.specs.Piled.{Without}
-use Rattle.pick_wiring.proofs.Exchanges.{the_last_fills_in}
+use Rattle.masks.specs.Listed.{Without}
+use Rattle.pick_wiring.proofs.Removal.{the_last_fills_in}
 use Rattle.pick_wiring.proofs.pile.Pile.remove.Goals as goal
 
 pub returns : goal.returns

@@ -1,9 +1,0 @@
-use Rattle.std.proofs.Common.{arith}
-use Rattle.std.proofs.lemmas.Bool.Decides.{nat_tests}
-use Rattle.table.proofs.OneServer.{none_past_the_end}
-use Rattle.fleet.proofs.fleet.Fleet.is_standing.Goals as goal
-
-pub returns-else-server-lt-SERVERS : goal.returns-else-server-lt-SERVERS
-returns-else-server-lt-SERVERS c =
-    let past = none_past_the_end c.args.self.now.list c.args.server c.args.self.now.sized c.if-server-lt-SERVERS.false in
-    grind (arith, nat_tests)
