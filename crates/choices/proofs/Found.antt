@@ -47,7 +47,7 @@ pub record Ranked {K : Type 0} (below : K → K → Bool) (keys : List (Candidat
 
 module _ {K : Type 0} (below : K → K → Bool) (keys : List (Candidate K)) (f : ℕ → Bool) (g : ℕ → ℕ) (ranked : Ranked below keys f g) where
   -- the candidate found waits: it is what the rules name
-  the_key_found_is_least : (i : ℕ) → LeastOf (candidate_below below) keys (length keys) i → (a : K) → get_or keys i Absent ≡ Waits a → Some i ≡ least f g (length keys)
+  pub the_key_found_is_least : (i : ℕ) → LeastOf (candidate_below below) keys (length keys) i → (a : K) → get_or keys i Absent ≡ Waits a → Some i ≡ least f g (length keys)
   the_key_found_is_least i found a is = sym (the_smallest_is_least f g (length keys) i found.within (ranked.waiting i a found.within is)
       (λ k l e. no_larger k l e (get_or keys k Absent) refl) (λ k l e. smaller k l e (get_or keys k Absent) refl))
     where

@@ -1,5 +1,5 @@
 mod Filled
-mod Found
-mod GroupSets
+pub mod Found
+pub mod GroupSets
 mod Ordered
-mod Ranks
+pub mod Ranks

@@ -9,7 +9,7 @@ use search::least;
 #[derive(Clone, Copy, Debug, PartialEq, Eq, PartialOrd, Ord)]
 pub struct GroupKey {
     pub(crate) count: u16,
-    pub(crate) group: usize,
+    pub(crate) group: u8,
 }
 
 // What may wait or not. No Option, since None comes before every Some: the least of a row is to be one that waits.

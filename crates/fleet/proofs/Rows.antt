@@ -9,7 +9,6 @@ use Rattle.std.specs.declared.ops.Range.{Range}
 use Rattle.std.proofs.iter.Yields.{nat_range_steps}
 use Rattle.std.proofs.lemmas.Bool.Decides.{nat_tests}
 use Rattle.std.proofs.lemmas.Iterator.{YieldsList, maps, YieldsList-from_range, YieldsList-from_map}
-use Rattle.std.proofs.lemmas.List.Folds.{fold-map}
 use Rattle.std.proofs.lemmas.List.Sums.{fold-append}
 use Rattle.std.proofs.lemmas.List.FromFn.{filter_of_map_range_with_len_more}
 use denote.Param.Members.{Mut}
@@ -41,6 +40,15 @@ module _ (test : ℕ → Bool) where
   abbrev pub rows_passing : ℕ → List Row
   rows_passing n = filter (λ r. test r.0) (map row_at (range_with_len 0 n))
 
+  -- a fold that keeps what it has at rows that fail is the fold over those that pass
+  pub over_those_that_pass : {B : Type 0} (h : B → Row → B) (a : B) (rows : List Row) → fold (λ b r. cond (test r.0) (h b r) b) a rows ≡ fold h a (filter (λ r. test r.0) rows)
+  over_those_that_pass h a [] = refl
+  over_those_that_pass h a (r ∷ rows) = over_those_that_pass h (cond (test r.0) (h a r) a) rows ∙ by_test (test r.0)
+    where
+      by_test : (b : Bool) → fold h (cond b (h a r) a) (filter (λ x. test x.0) rows) ≡ fold h a (cond b (r ∷ filter (λ x. test x.0) rows) (filter (λ x. test x.0) rows))
+      by_test true = refl
+      by_test false = refl
+
   -- one row more at the end of a fold
   pub one_row_more : {B : Type 0} (h : B → Row → B) (a : B) (n : ℕ) → fold h a (rows_passing (suc n)) ≡ cond (test n) (h (fold h a (rows_passing n)) (row_at n)) (fold h a (rows_passing n))
   one_row_more h a n =
@@ -67,8 +75,8 @@ module _ (test : ℕ → Bool) where
         by_test true e a was = grind (arith, nat_tests)
         by_test false e a was = grind (arith, nat_tests)
 
-    pub highest_tag_is_top : (n : ℕ) → tag_key (fold higher_tag first_tag (map (tag_at tag) (rows_passing n))) ≡ top test tag n
-    highest_tag_is_top n = ap tag_key (fold-map higher_tag (tag_at tag) first_tag (rows_passing n)) ∙ (highest_so_far n).key
+    pub highest_tag_is_top : (n : ℕ) → tag_key (fold (λ a r. higher_tag a (tag_at tag r)) first_tag (rows_passing n)) ≡ top test tag n
+    highest_tag_is_top n = (highest_so_far n).key
 
     -- the row with the highest tag, or the one that was given
     pub highest_row_is_top : (r : Row) (n : ℕ) → tag_number (tag (fold (higher_row tag) r (rows_passing n)).0) ≡ max (tag_number (tag r.0)) (top test (λ k. tag_number (tag k)) n)

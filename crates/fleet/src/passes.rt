@@ -30,15 +30,19 @@ impl Fleet {
             .is_some_and(|found| found.some_pending())
     }
 
-    // The highest pending tag at the server, the first tag if nothing is pending.
+    // The highest pending tag at the server, the first tag if nothing is pending. The test stands in the fold, here and in the next: a `filter` before it makes the pass slower.
     pub fn highest_pending(&self, server: usize, journal: &Journal) -> Tag
         ensures { tag_key result ≡ highest_pending (state self.now (view journal.now)) server }
     {
         (0..ROWS)
             .map(|k| Row(k as u8))
-            .filter(|row| self.is_pending(server, *row))
-            .map(|row| journal.tag_of(row))
-            .fold(Tag::FIRST, |highest, tag| highest.max(tag))
+            .fold(Tag::FIRST, |highest, row| {
+                if self.is_pending(server, row) {
+                    highest.max(journal.tag_of(row))
+                } else {
+                    highest
+                }
+            })
     }
 
     // The row that the server holds or that is pending there with the highest tag: a write that starts there takes the number after its.
@@ -47,9 +51,10 @@ impl Fleet {
     {
         (0..ROWS)
             .map(|k| Row(k as u8))
-            .filter(|row| self.is_pending(server, *row))
             .fold(self.held(server), |highest, row| {
-                if journal.tag_of(highest).is_below(journal.tag_of(row)) {
+                if self.is_pending(server, row)
+                    && journal.tag_of(highest).is_below(journal.tag_of(row))
+                {
                     row
                 } else {
                     highest

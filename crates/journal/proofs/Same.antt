@@ -19,7 +19,7 @@ module _ (used mark : ℕ) (rows : List Operation) (h : Facts used mark rows) (k
   pub open_is_open : row_is_open (journal_of used mark rows) k ≡ is_open (operation_at rows k)
   open_is_open = ap (λ b. b && (not (is_answered (state_at rows k)) && not (operation_at rows k).given_up)) (sym (h.taken k))
 
-  open_of_is_open_of : (c : ℕ) → row_is_open_of (journal_of used mark rows) c k ≡ is_open_of (operation_at rows k) c
+  pub open_of_is_open_of : (c : ℕ) → row_is_open_of (journal_of used mark rows) c k ≡ is_open_of (operation_at rows k) c
   open_of_is_open_of c = ap (λ b. b && eqb (operation_at rows k).client c) open_is_open
 
   pub read_is_read : row_is_open_read (journal_of used mark rows) k ≡ is_open_read (operation_at rows k)
@@ -30,30 +30,30 @@ module _ (used mark : ℕ) (rows : List Operation) (h : Facts used mark rows) (k
       ap (λ b. b && (is_write (state_at rows k) && (not (is_answered (state_at rows k)) && (eqb (tag_key (state_tag (state_at rows k))) 0 && eqb (operation_at rows k).server p)))) (sym (h.taken k))
       ∙ a_queued_write_has_no_tag (state_at rows k) (eqb (operation_at rows k).server p) (h.numbered k)
 
-  due_is_due : (p tag : ℕ) → is_due_read (journal_of used mark rows) p tag k ≡ is_due (operation_at rows k) p tag
+  pub due_is_due : (p tag : ℕ) → is_due_read (journal_of used mark rows) p tag k ≡ is_due (operation_at rows k) p tag
   due_is_due p tag = ap (λ b. b && (not (is_write (state_at rows k)) && (eqb (operation_at rows k).server p && leb (threshold_key (state_at rows k)) tag))) open_is_open
 
-  returned_is_returned : (p tag : ℕ) → is_due_write (journal_of used mark rows) p tag k ≡ is_returned (operation_at rows k) p tag
+  pub returned_is_returned : (p tag : ℕ) → is_due_write (journal_of used mark rows) p tag k ≡ is_returned (operation_at rows k) p tag
   returned_is_returned p tag =
       ap (λ b. b && (is_write (state_at rows k) && (ltb 0 (tag_key (state_tag (state_at rows k))) && (eqb (operation_at rows k).server p && leb (tag_key (state_tag (state_at rows k))) tag)))) open_is_open
       ∙ an_open_write_with_a_tag_has_started (state_at rows k) (not (operation_at rows k).given_up) (eqb (operation_at rows k).server p && leb (tag_key (state_tag (state_at rows k))) tag) (h.numbered k)
 
 -- no test passes past the used rows
 module _ (used mark : ℕ) (rows : List Operation) (k : ℕ) (past : used ≤ k) where
-  none_open_past_the_used_rows : row_is_open (journal_of used mark rows) k ≡ false
+  pub none_open_past_the_used_rows : row_is_open (journal_of used mark rows) k ≡ false
   none_open_past_the_used_rows = ap (λ b. b && (not (is_answered (state_at rows k)) && not (operation_at rows k).given_up)) (le-ltb k used past)
 
-  none_open_of_past_the_used_rows : (c : ℕ) → row_is_open_of (journal_of used mark rows) c k ≡ false
+  pub none_open_of_past_the_used_rows : (c : ℕ) → row_is_open_of (journal_of used mark rows) c k ≡ false
   none_open_of_past_the_used_rows c = ap (λ b. b && eqb (operation_at rows k).client c) none_open_past_the_used_rows
 
-  none_queued_past_the_used_rows : (p : ℕ) → row_is_queued (journal_of used mark rows) p k ≡ false
+  pub none_queued_past_the_used_rows : (p : ℕ) → row_is_queued (journal_of used mark rows) p k ≡ false
   none_queued_past_the_used_rows p =
       ap (λ b. b && (is_write (state_at rows k) && (not (is_answered (state_at rows k)) && (eqb (tag_key (state_tag (state_at rows k))) 0 && eqb (operation_at rows k).server p)))) (le-ltb k used past)
 
-  no_read_past_the_used_rows : (p tag : ℕ) → is_due_read (journal_of used mark rows) p tag k ≡ false
+  pub no_read_past_the_used_rows : (p tag : ℕ) → is_due_read (journal_of used mark rows) p tag k ≡ false
   no_read_past_the_used_rows p tag = ap (λ b. b && (not (is_write (state_at rows k)) && (eqb (operation_at rows k).server p && leb (threshold_key (state_at rows k)) tag))) none_open_past_the_used_rows
 
-  no_write_past_the_used_rows : (p tag : ℕ) → is_due_write (journal_of used mark rows) p tag k ≡ false
+  pub no_write_past_the_used_rows : (p tag : ℕ) → is_due_write (journal_of used mark rows) p tag k ≡ false
   no_write_past_the_used_rows p tag =
       ap (λ b. b && (is_write (state_at rows k) && (ltb 0 (tag_key (state_tag (state_at rows k))) && (eqb (operation_at rows k).server p && leb (tag_key (state_tag (state_at rows k))) tag)))) none_open_past_the_used_rows
 

@@ -18,7 +18,7 @@ use Rattle.journal.specs.Questions.{row_found}
 use Rattle.journal.specs.Rows.{operation_at}
 use Rattle.journal.specs.Tests.{passes_in}
 
-the_first_is_the_least : (f : ℕ → Bool) (n k : ℕ) → k < n → f k ≡ true → ((j : ℕ) → j < k → f j ≡ false) → least f (λ j. j) n ≡ Some k
+pub the_first_is_the_least : (f : ℕ → Bool) (n k : ℕ) → k < n → f k ≡ true → ((j : ℕ) → j < k → f j ≡ false) → least f (λ j. j) n ≡ Some k
 unfolding least
 the_first_is_the_least f zero k l e h = absurd (omega arith)
 the_first_is_the_least f (suc n) k l e h = ⊎_elim
@@ -46,7 +46,7 @@ a_row_is_found None f n e = ap is_some e ∙ some_is_found f (λ k. k) n
 a_row_is_found (Some r) f n e = ap is_some e ∙ some_is_found f (λ k. k) n
 
 -- a count up to where the last can pass is the whole count
-the_count_is_whole : (f : ℕ → Bool) (u n : ℕ) → u ≤ n → ((j : ℕ) → u ≤ j → f j ≡ false) → count f n ≡ count f u
+pub the_count_is_whole : (f : ℕ → Bool) (u n : ℕ) → u ≤ n → ((j : ℕ) → u ≤ j → f j ≡ false) → count f n ≡ count f u
 unfolding count
 the_count_is_whole f u zero l h = let e : u ≡ 0 = omega arith in ap (count f) (sym e)
 the_count_is_whole f u (suc n) l h = ⊎_elim

@@ -6,32 +6,38 @@ ghost use Rattle.messages.specs.Waiting.{Waiting};
 ghost use Rattle.model.specs.Operations.{GiveUpStep, ReadStep, WriteStep};
 ghost use Rattle.model.specs.Outcomes.{outcome, row_outcome};
 ghost use Rattle.requests.specs.Beginning.{refuse_begin};
-ghost use Rattle.sending.specs.View.{memory_shelf, memory_state, refused_or, state};
+ghost use Rattle.sending.specs.View.{refused_or, shelf, state};
 
+use fleet::Fleet;
 use journal::Journal;
 use messages::{ROWS, Row};
 use model::Refusal;
 use operation::Request;
-use sending::{Memory, refuse_server};
+use sending::refuse_server;
 
 // Clients are numbered from 0 to 15.
 const CLIENTS: usize = 16;
 
 // Refuses what write and read refuse alike.
-fn refuse_begin(memory: &Memory, client: usize, server: usize) -> Result<(), Refusal>
-    ensures refuses { (w : Waiting) (later : Option Refusal) → refuse_begin (memory_state memory.now w) client server later ≡ refused_or result later }
+fn refuse_begin(
+    journal: &Journal,
+    fleet: &Fleet,
+    client: usize,
+    server: usize,
+) -> Result<(), Refusal>
+    ensures refuses { (w : Waiting) (later : Option Refusal) → refuse_begin (state journal.now fleet.now w) client server later ≡ refused_or result later }
     ensures client { is_ok result ≡ true → client < 16 }
     ensures server { is_ok result ≡ true → server < 8 }
-    ensures room { is_ok result ≡ true → nat_le 256 (view memory.now.journal).used ≡ false }
+    ensures room { is_ok result ≡ true → nat_le 256 (view journal.now).used ≡ false }
 {
     if client >= CLIENTS {
         return Err(Refusal::NoClient);
     }
-    refuse_server(&memory.fleet, server)?;
-    if memory.journal.open_row(client as u8).is_some() {
+    refuse_server(fleet, server)?;
+    if journal.open_row(client as u8).is_some() {
         return Err(Refusal::Busy);
     }
-    if memory.journal.is_full() {
+    if journal.is_full() {
         return Err(Refusal::Full);
     }
     Ok(())
@@ -39,21 +45,20 @@ fn refuse_begin(memory: &Memory, client: usize, server: usize) -> Result<(), Ref
 
 // The client begins a write at the server: it is queued, and its value is stored in the row that it gives.
 pub fn write<V: Copy>(
-    memory: &mut Memory,
+    journal: &mut Journal,
+    fleet: &Fleet,
     values: &mut [V],
     client: usize,
     server: usize,
     value: V,
 ) -> Result<Row, Refusal>
-    ensures step { (w : Waiting) (d : V) → WriteStep (memory_shelf d memory.old w values.old) client server value (row_outcome result) (memory_shelf d memory.new w values.new) }
-    ensures fleet { memory.new.fleet ≡ memory.old.fleet }
+    ensures { (w : Waiting) (d : V) → WriteStep (shelf d journal.old fleet.now w values.old) client server value (row_outcome result) (shelf d journal.new fleet.now w values.new) }
 {
-    refuse_begin(memory, client, server)?;
+    refuse_begin(journal, fleet, client, server)?;
     if values.len() != ROWS {
         return Err(Refusal::WrongRowCount);
     }
-    let row = memory
-        .journal
+    let row = journal
         .begin(client as u8, server as u8, Request::Write)
         .ok_or(Refusal::Full)?;
     values[row.0 as usize] = value;
@@ -61,18 +66,21 @@ pub fn write<V: Copy>(
 }
 
 // The client begins a read at the server. If nothing is pending there it is answered straight away, with the held row.
-pub fn read(memory: &mut Memory, client: usize, server: usize) -> Result<Row, Refusal>
-    ensures step { (w : Waiting) → ReadStep (memory_state memory.old w) client server (row_outcome result) (memory_state memory.new w) }
-    ensures fleet { memory.new.fleet ≡ memory.old.fleet }
+pub fn read(
+    journal: &mut Journal,
+    fleet: &Fleet,
+    client: usize,
+    server: usize,
+) -> Result<Row, Refusal>
+    ensures { (w : Waiting) → ReadStep (state journal.old fleet.now w) client server (row_outcome result) (state journal.new fleet.now w) }
 {
-    refuse_begin(memory, client, server)?;
-    let threshold = memory.fleet.highest_pending(server, &memory.journal);
-    let row = memory
-        .journal
+    refuse_begin(journal, fleet, client, server)?;
+    let threshold = fleet.highest_pending(server, journal);
+    let row = journal
         .begin(client as u8, server as u8, Request::Read { threshold })
         .ok_or(Refusal::Full)?;
-    if !memory.fleet.some_pending(server) {
-        memory.journal.answer_read(row, memory.fleet.held(server));
+    if !fleet.some_pending(server) {
+        journal.answer_read(row, fleet.held(server));
     }
     Ok(row)
 }

@@ -55,14 +55,21 @@ impl Ring {
     ) -> Result<Row, Refusal>
         ensures { (w : Waiting) (d : V) → WriteStep (ring_shelf d self.old w values.old) client server value (row_outcome result) (ring_shelf d self.new w values.new) }
     {
-        requests::write(&mut self.memory, values, client, server, value)
+        requests::write(
+            &mut self.memory.journal,
+            &self.memory.fleet,
+            values,
+            client,
+            server,
+            value,
+        )
     }
 
     // The client begins a read at the server; gives its row.
     pub fn read(&mut self, client: usize, server: usize) -> Result<Row, Refusal>
         ensures { (w : Waiting) → ReadStep (ring_state self.old w) client server (row_outcome result) (ring_state self.new w) }
     {
-        requests::read(&mut self.memory, client, server)
+        requests::read(&mut self.memory.journal, &self.memory.fleet, client, server)
     }
 
     // The client gives up its open operation.

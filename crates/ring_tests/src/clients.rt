@@ -53,18 +53,32 @@ impl Shelf {
 
     // A write of 9.
     fn write(&mut self, client: usize, server: usize) -> Result<Row, u8> {
-        numbered(write(&mut self.memory, &mut self.values, client, server, 9))
+        numbered(write(
+            &mut self.memory.journal,
+            &self.memory.fleet,
+            &mut self.values,
+            client,
+            server,
+            9,
+        ))
     }
 
     // A write of 9 that lends one value row too few.
     fn write_short(&mut self, client: usize, server: usize) -> Result<Row, u8> {
         let mut few = [0; 255];
-        numbered(write(&mut self.memory, &mut few, client, server, 9))
+        numbered(write(
+            &mut self.memory.journal,
+            &self.memory.fleet,
+            &mut few,
+            client,
+            server,
+            9,
+        ))
     }
 
     // A read.
     fn read(&mut self, client: usize, server: usize) -> Result<Row, u8> {
-        numbered(read(&mut self.memory, client, server))
+        numbered(read(&mut self.memory.journal, &self.memory.fleet, client, server))
     }
 
     // The client gives up.

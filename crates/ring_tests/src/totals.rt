@@ -19,7 +19,7 @@ fn amounts_are_those_of_standing_servers(rt: HostRuntime) {
     let mut values = [0; 256];
     assert_eq!(rt; amounts(&memory, &wiring), (0, 0, 0), "never made");
     assert!(rt; make(&mut memory, &mut values, 3, 0).is_ok());
-    assert!(rt; write(&mut memory, &mut values, 0, 1, 5).is_ok());
+    assert!(rt; write(&mut memory.journal, &memory.fleet, &mut values, 0, 1, 5).is_ok());
     wiring.put(1, 1, 1, ServerSet::only(0));
     wiring.put(2, 1, 2, ServerSet::only(0));
     memory

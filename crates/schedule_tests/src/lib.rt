@@ -1,6 +1,8 @@
-// Examples of schedules: what bytes read as, every fault with its place, and what is written.
+// Examples of schedules: what bytes read as, every fault with its place, what is written, and what the errors print.
 #![tactic(auto)]
 
+#[cfg(test)]
+mod errors;
 #[cfg(test)]
 mod faults;
 #[cfg(test)]

@@ -2,10 +2,11 @@
 // What both do is one generic function, and a test of each, since a test has no type parameter.
 use crate::took;
 use line_wiring::LineWiring;
-use messages::{Phase, ROWS};
+use messages::{NoPlace, Phase, ROWS};
 use pick_wiring::PickWiring;
 use servers::{SERVERS, ServerSet};
 use std::process::Abort;
+use std::test::Fail;
 use wiring::Wiring;
 
 // The phases by their numbers, as put takes them.
@@ -200,4 +201,16 @@ fn a_pick_of_0_goes_through_all(rt: HostRuntime) {
         assert!(rt; took(w.take(5), row, Phase::Write, ServerSet::only(2)));
     }
     assert!(rt; w.take(5).is_none());
+}
+
+// Numbers that name no row or no phase say which they are.
+#[test]
+fn numbers_of_no_place_print(rt: HostRuntime) -> Result<(), Fail> {
+    let texts = [
+        NoPlace::Row(256).to_string(rt.alloc())?,
+        NoPlace::Phase(3).to_string(rt.alloc())?,
+    ];
+    assert_eq!(rt; texts[0].as_str(), "row 256 is above 255");
+    assert_eq!(rt; texts[1].as_str(), "phase 3 is neither 1 nor 2");
+    Ok(())
 }

@@ -9,33 +9,33 @@ use Rattle.model.specs.Refusals.{refuse}
 use Rattle.model.specs.Operations.{refuse_write, writes}
 use Rattle.journal.specs.View.{view}
 use Rattle.model.specs.Outcomes.{row_outcome}
-use Rattle.sending.specs.View.{memory_shelf}
+use Rattle.sending.specs.View.{shelf}
 use Rattle.sending.proofs.Telling.{refused_leaves_all, accepted_does_it}
 use Rattle.requests.proofs.Storing.{a_stored_value_stands_in_its_row}
 use Rattle.requests.proofs.Beginnings.{it_begins_in_the_next_row, with_room_it_begins}
 use Rattle.requests.proofs.operations.write.Goals as goal
 
-pub returns-in_err-refuse_begin-clause-step : goal.returns-in_err-refuse_begin-clause-step
-returns-in_err-refuse_begin-clause-step g c = λ w d.
+pub returns-in_err-refuse_begin : goal.returns-in_err-refuse_begin
+returns-in_err-refuse_begin g c = λ w d.
     let values = c.args.values.now in
-    let s = memory_shelf d c.args.memory.now w values in
+    let s = shelf d c.args.journal.now c.args.fleet.now w values in
     let p = err_from_is_err_and c.from_residual.result c.from_residual.ensures.1 in
     refused_leaves_all (refuse_write s.state (length values) c.args.client c.args.server) s (Row s.state.journal.used) (writes s c.args.client c.args.server c.args.value) (row_outcome c.from_residual.result) _ c.in_err-refuse_begin.field-0.0
     (c.in_err-refuse_begin.ensures.refuses w (refuse (not (eqb (length values) 256)) WrongRowCount None)) (ap row_outcome (p.1 ∙ ap Err p.2)) refl
 
-pub returns-then-values-ne-ROWS-clause-step : goal.returns-then-values-ne-ROWS-clause-step
-returns-then-values-ne-ROWS-clause-step g c = λ w d.
+pub returns-then-values-ne-ROWS : goal.returns-then-values-ne-ROWS
+returns-then-values-ne-ROWS g c = λ w d.
     let values = c.args.values.now in
-    let s = memory_shelf d c.args.memory.now w values in
+    let s = shelf d c.args.journal.now c.args.fleet.now w values in
     let other : eqb (length values) 256 ≡ false = grind (arith, nat_tests) in
     refused_leaves_all (refuse_write s.state (length values) c.args.client c.args.server) s (Row s.state.journal.used) (writes s c.args.client c.args.server c.args.value) (Refused WrongRowCount) _ WrongRowCount
     (c.in_ok-refuse_begin.ensures.refuses w (refuse (not (eqb (length values) 256)) WrongRowCount None) ∙ ap (λ b. refuse (not b) WrongRowCount None) other) refl refl
 
-pub returns-clause-step : goal.returns-clause-step
-returns-clause-step g c = λ w d.
+pub returns : goal.returns
+returns g c = λ w d.
     let values = c.args.values.now in
-    let j = view c.args.memory.now.journal in
-    let s = memory_shelf d c.args.memory.now w values in
+    let j = view c.args.journal.now in
+    let s = shelf d c.args.journal.now c.args.fleet.now w values in
     let client = c.args.client in
     let server = c.args.server in
     let value = c.args.value in
