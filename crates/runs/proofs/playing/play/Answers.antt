@@ -1,6 +1,6 @@
 -- The proof of play: a new ring is the start of a run, each call makes it longer by one, and both promises hold of the whole.
 use Rattle.std.proofs.Common.{◌≡◌, ◌+◌, [], ◌∷◌, ◌++◌, length, vec_items, sym, ap, ◌∙◌, arith, rules}
-use Rattle.std.proofs.lemmas.List.{length-append, with_items_is}
+use Rattle.std.proofs.lemmas.List.{length-append, take_rest, with_items_is}
 use Rattle.std.proofs.lemmas.Result.{err_from_is_err_and}
 use Rattle.messages.specs.Waiting.{nothing}
 use Rattle.runs.proofs.Making.{a_made_shelf_is_new, a_refused_make_tells_its_reason}
@@ -18,6 +18,8 @@ loop-call-init g c =
     let none = c.new-outcomes.ensures.items in
     (ap length none, λ d. rw none (nothing_played _ c.args.calls.now))
 
+-- The call played is the next one of the list. The loop goes through the list itself, which leaves `take_rest` nothing to do: it is for the edit `the_first_call_is_skipped`,
+-- whose loop goes through a slice of the list. Without it the right text in that form would be refused as well, and the edit would show nothing.
 pub loop-call-preserved : goal.loop-call-preserved
 loop-call-preserved g c =
     let before = c.loop-call.invariant in
@@ -28,7 +30,7 @@ loop-call-preserved g c =
     let longer : length (vec_items c.push.new.self) ≡ c.loop-call.call-index + 1 = ap length told ∙ length-append outcomes (c.call-outcome.result ∷ []) ∙ ap (λ n. n + 1) before.0 in (
       longer,
       λ d. rw (told, values) (one_more_played _ _ _ c.args.calls.now outcomes c.call-item.result c.call-outcome.result
-          (before.1 d) (let at = before.0 in omega arith) (rw before.0 c.call-item.is) (rw (sym lent.value) (c.call-outcome.ensures d))),
+          (before.1 d) (let at = before.0 in omega arith) (rw before.0 (search (rules, take_rest))) (rw (sym lent.value) (c.call-outcome.ensures d))),
     )
 
 pub returns : goal.returns
